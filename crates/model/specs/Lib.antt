@@ -1,0 +1,4 @@
+pub mod Pixel
+pub mod Scene
+pub mod Buffer
+pub mod Output
