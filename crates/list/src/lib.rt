@@ -1,0 +1,4 @@
+// Lists over lent places.
+mod appender;
+
+pub use appender::Appender;
