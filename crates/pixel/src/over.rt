@@ -1,0 +1,40 @@
+// One pixel laid on another.
+ghost use mathlib.Core.Path.{_≡_};
+ghost use Prim.Native.Nat.{_<_};
+ghost use Rattle.model.specs.Pixel.{over, blended, opaque as opaqued};
+ghost use Rattle.model.specs.Scene.{laid};
+use model::Element;
+
+// One channel of a premultiplied source with alpha `a`, over the channel below it.
+fn channel_over(a: u32, s: u32, d: u32) -> u32
+    requires { ⌜ a < 256 ⌝ ∗ ⌜ s < 256 ⌝ ∗ ⌜ d < 256 ⌝ }
+    ensures { λ r. ⌜ r ≡ over a s d ⌝ ∗ ⌜ r < 256 ⌝ }
+{
+    (s + (d * (255 - a) + 127) / 255).min(255)
+}
+
+// A premultiplied ARGB8888 pixel over the pixel below it.
+pub fn blend(s: u32, d: u32) -> u32
+    ensures { λ r. ⌜ r ≡ blended s d ⌝ }
+{
+    let a = s >> 24;
+    let alpha = channel_over(a, a, d >> 24);
+    let red = channel_over(a, s >> 16 & 0xff, d >> 16 & 0xff);
+    let green = channel_over(a, s >> 8 & 0xff, d >> 8 & 0xff);
+    let blue = channel_over(a, s & 0xff, d & 0xff);
+    alpha << 24 | red << 16 | green << 8 | blue
+}
+
+// An XRGB8888 pixel, whose top eight bits mean nothing, made opaque.
+pub fn opaque(s: u32) -> u32
+    ensures { λ r. ⌜ r ≡ opaqued s ⌝ }
+{
+    0xff00_0000 | s & 0x00ff_ffff
+}
+
+// A pixel of an element laid on the pixel below it.
+pub fn lay(e: &Element, s: u32, d: u32) -> u32
+    ensures { λ r. ⌜ r ≡ laid (now (e .entry)) s d ⌝ }
+{
+    if e.format == 0 { blend(s, d) } else { opaque(s) }
+}
