@@ -42,3 +42,8 @@ show-answer lit scene n = cond lit (cond (showable scene n) (Ok tt) (output-faul
 abbrev pub sized : Size → Bool
 sized s =
     (eqb (s .width) 0 && eqb (s .height) 0) || (leb 1 (s .width) && leb (s .width) longest && leb 1 (s .height) && leb (s .height) longest)
+
+-- a second step, asked where the first is accepted
+abbrev pub then : Answer → Answer → Answer
+then (Ok _) next = next
+then (Err f) next = Err f

@@ -1,0 +1,7 @@
+pub mod Rows
+pub mod Sounds
+pub mod Drawing
+pub mod Rasters
+pub mod Readings
+pub mod Frames
+pub mod Composing
