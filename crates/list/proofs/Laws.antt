@@ -44,21 +44,21 @@ module _ {T : Type 0} where
   pub appended-then : (a b c : Appender T) (xs ys : List T) → Appended a b xs → Appended b c ys → Appended a c (xs ++ ys)
   appended-then a b c xs ys p q =
       let same = appended-length a b xs p in
-      record
-        { count = simp length-append (omega (arith, p .count, q .count))
-        ; places =
+      record {
+        count = simp length-append (omega (arith, p .count, q .count));
+        places =
             q .places
             ∙ ap (λ (l : List T). sets l (b .count) ys) (p .places)
-            ∙ sets-then (now (a .places)) (a .count) (b .count) xs ys (p .count)
-        ; lender = q .lender ∙ p .lender
-        }
+            ∙ sets-then (now (a .places)) (a .count) (b .count) xs ys (p .count);
+        lender = q .lender ∙ p .lender;
+      }
 
   -- what a lender finds where the list began empty and its places sufficed
   pub appended-all : (a b : Appender T) (xs : List T) → Appended a b xs → a .count ≡ 0 → length xs ≤ length (now (a .places)) → (now (b .places) ≡ written (now (a .places)) xs) × (b .count ≡ length xs)
-  appended-all a b xs p z h =
-      ( p .places
+  appended-all a b xs p z h = (
+    p .places
         ∙ ap (λ (k : ℕ). sets (now (a .places)) k xs) z
         ∙ sets-eq xs (now (a .places)) 0 (rw zero-add h)
-        ∙ ap (λ (k : ℕ). xs ++ drop k (now (a .places))) (zero-add (length xs))
-      , omega (arith, p .count)
-      )
+        ∙ ap (λ (k : ℕ). xs ++ drop k (now (a .places))) (zero-add (length xs)),
+    omega (arith, p .count),
+  )

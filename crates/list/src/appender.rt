@@ -25,7 +25,7 @@ impl<'a, T: Copy> Appender<'a, T> {
     pub fn count(&self) -> usize
         ensures { λ r. ⌜ r ≡ now (self .entry) .count ⌝ }
     {
-        self.count
+        self.count // what found no place is not counted
     }
 
     // One more at the end; a full list stays as it is.

@@ -36,5 +36,9 @@ pub fn opaque(s: u32) -> u32
 pub fn lay(e: &Element, s: u32, d: u32) -> u32
     ensures { λ r. ⌜ r ≡ laid (now (e .entry)) s d ⌝ }
 {
-    if e.format == 0 { blend(s, d) } else { opaque(s) }
+    if e.format == 0 {
+        blend(s, d)
+    } else {
+        opaque(s)
+    }
 }

@@ -10,7 +10,6 @@ use denote.Ref.{now, name}
 use Rattle.std.specs.declared.result.Result.the-variants.{Ok}
 use Rattle.std.proofs.shelf.Tests.{cases-bool, cond-true, cond-false, and-parts, and-from, and-left, not-from-false, or-left}
 use Rattle.model.specs.declared.element.Element.{Element}
-use Rattle.model.specs.declared.size.Size.{Size}
 use Rattle.model.specs.Buffer.{all-sound}
 use Rattle.model.specs.Output.{accepted, output-fault, on-answer, show-answer, showable, most-elements}
 use Rattle.model.specs.Scene.{picture}
@@ -26,8 +25,8 @@ pub show-accepted : (lit : Bool) (scene : List Element) (n : ℕ) → lit ≡ tr
 show-accepted lit scene n on =
     ap (λ b. accepted (show-answer b scene n)) on
     ∙ ⊎-elim (λ t. ap accepted (cond-true (showable scene n) (Ok tt) (output-fault 18) t) ∙ sym t)
-      (λ f. ap accepted (cond-false (showable scene n) (Ok tt) (output-fault 18) f) ∙ sym f)
-      (cases-bool (showable scene n))
+    (λ f. ap accepted (cond-false (showable scene n) (Ok tt) (output-fault 18) f) ∙ sym f)
+    (cases-bool (showable scene n))
 
 module _ (c : Composer) where
   abbrev fit : Bool
@@ -35,9 +34,6 @@ module _ (c : Composer) where
 
   abbrev on : Bool
   on = accepted (on-answer (composer-size c))
-
-  abbrev sides : Size
-  sides = record { width = c .width; height = c .height }
 
   pub on-true : fit ≡ true → on ≡ true
   on-true t = ap accepted (on-fits (c .width) (c .height) (length (now (c .frame))) ∙ cond-true fit (Ok tt) (output-fault 19) t)
@@ -47,7 +43,7 @@ module _ (c : Composer) where
 
 module _ (c d : Composer) (scene : List Element) (m : List ℕ) (dark : c .lit ≡ false) where
   abbrev found : List ℕ
-  found = composed (sides c) (now (c .frame)) scene m
+  found = composed (c .width) (c .height) (now (c .frame)) scene m
 
   abbrev can : Bool
   can = showable scene (length m)
@@ -67,7 +63,7 @@ module _ (c d : Composer) (scene : List Element) (m : List ℕ) (dark : c .lit �
       let long : length (now (mid .frame)) ≡ length (now (c .frame)) = ap length (blackens mid t left) ∙ length-blackened (c .width) (c .height) (now (c .frame)) in
       let fit′ : fits (mid .width) (mid .height) (length (now (mid .frame))) ≡ true = rw (left .width, left .height, long) t in
       cond-true (fits (mid .width) (mid .height) (length (now (mid .frame))) && all-sound (length m) scene) (raster (mid .width) (mid .height) (picture scene m)) (now (mid .frame))
-        (and-from (fits (mid .width) (mid .height) (length (now (mid .frame)))) (all-sound (length m) scene) fit′ ok)
+      (and-from (fits (mid .width) (mid .height) (length (now (mid .frame)))) (all-sound (length m) scene) fit′ ok)
       ∙ rw (left .width, left .height)
 
   -- what showing then left, where the scene can be shown and where it cannot
@@ -80,9 +76,9 @@ module _ (c d : Composer) (scene : List Element) (m : List ℕ) (dark : c .lit �
       let black = blackened (now (c .frame)) in
       ⊎-elim
       (λ (y : can ≡ true).
-         cond-true ok new (now (mid .frame)) (answer ∙ y) ∙ draws mid t left y ∙ sym (cond-true (fit c) (cond can drawn black) (now (c .frame)) t ∙ cond-true can drawn black y))
+      cond-true ok new (now (mid .frame)) (answer ∙ y) ∙ draws mid t left y ∙ sym (cond-true (fit c) (cond can drawn black) (now (c .frame)) t ∙ cond-true can drawn black y))
       (λ (n : can ≡ false).
-         cond-false ok new (now (mid .frame)) (answer ∙ n) ∙ blackens mid t left ∙ sym (cond-true (fit c) (cond can drawn black) (now (c .frame)) t ∙ cond-false can drawn black n))
+      cond-false ok new (now (mid .frame)) (answer ∙ n) ∙ blackens mid t left ∙ sym (cond-true (fit c) (cond can drawn black) (now (c .frame)) t ∙ cond-false can drawn black n))
       (cases-bool can)
 
   abbrev Found : Type 0
@@ -92,12 +88,12 @@ module _ (c d : Composer) (scene : List Element) (m : List ℕ) (dark : c .lit �
   lit-case t (mid, (first, second)) = (second .frame ∙ shows mid t first, second .lender ∙ first .lender)
 
   dark-case : fit c ≡ false → Composer-left c switched-on d → Found
-  dark-case f left =
-      ( left .frame
+  dark-case f left = (
+    left .frame
         ∙ cond-false (lights c) (blackened (now (c .frame))) (now (c .frame)) (and-left (on c) (not (c .lit)) (on-false c f))
-        ∙ sym (cond-false (fit c) (cond can drawn (blackened (now (c .frame)))) (now (c .frame)) f)
-      , left .lender
-      )
+        ∙ sym (cond-false (fit c) (cond can drawn (blackened (now (c .frame)))) (now (c .frame)) f),
+    left .lender,
+  )
 
   pub composed-frame : Lit-and-shown Composer-left (on c) c scene m d → Found
   composed-frame left =

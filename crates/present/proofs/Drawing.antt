@@ -33,17 +33,17 @@ module _ (e : Element) (m part : List ℕ) {w h fx sx cx fy sy cy : ℕ} (across
       let is = across .exact x hx in
       ⊎-elim
       (λ (t : now-in ≡ true).
-         let jy : y ≡ fy + row = grind (arith, tells) in
-         let lo : fx ≤ x = grind (arith, tells) in
-         let hi : x < fx + cx = grind (arith, tells) in
-         let pixel : getD part (x - fx) 0 ≡ getD m (source e x y) 0 = pixels (x - fx) (omega arith) ∙ ap (λ p. getD m p 0) (source-is jy lo hi low) in
-         let not-yet : (inside (e .x) (e .width) x && (leb fy y && ltb y (fy + row))) ≡ false = rw is (grind (arith, tells)) in
-         let then : (inside (e .x) (e .width) x && (leb fy y && ltb y (fy + (row + 1)))) ≡ true = rw is (grind (arith, tells)) in
-         let kept : v ≡ old = before ∙ cond-false _ _ _ not-yet in
-         after ∙ cond-true now-in _ _ t ∙ ap (λ s. laid e s v) pixel ∙ ap (laid e (getD m (source e x y) 0)) kept ∙ sym (cond-true _ _ _ then))
+      let jy : y ≡ fy + row = grind (arith, tells) in
+      let lo : fx ≤ x = grind (arith, tells) in
+      let hi : x < fx + cx = grind (arith, tells) in
+      let pixel : getD part (x - fx) 0 ≡ getD m (source e x y) 0 = pixels (x - fx) (omega arith) ∙ ap (λ p. getD m p 0) (source-is jy lo hi low) in
+      let not-yet : (inside (e .x) (e .width) x && (leb fy y && ltb y (fy + row))) ≡ false = rw is (grind (arith, tells)) in
+      let then : (inside (e .x) (e .width) x && (leb fy y && ltb y (fy + (row + 1)))) ≡ true = rw is (grind (arith, tells)) in
+      let kept : v ≡ old = before ∙ cond-false _ _ _ not-yet in
+      after ∙ cond-true now-in _ _ t ∙ ap (λ s. laid e s v) pixel ∙ ap (laid e (getD m (source e x y) 0)) kept ∙ sym (cond-true _ _ _ then))
       (λ (f : now-in ≡ false).
-         let same : (inside (e .x) (e .width) x && (leb fy y && ltb y (fy + row))) ≡ (inside (e .x) (e .width) x && (leb fy y && ltb y (fy + (row + 1)))) = rw is (grind (arith, tells)) in
-         after ∙ cond-false now-in _ _ f ∙ before ∙ ap (λ b. cond b (laid e (getD m (source e x y) 0) old) old) same)
+      let same : (inside (e .x) (e .width) x && (leb fy y && ltb y (fy + row))) ≡ (inside (e .x) (e .width) x && (leb fy y && ltb y (fy + (row + 1)))) = rw is (grind (arith, tells)) in
+      after ∙ cond-false now-in _ _ f ∙ before ∙ ap (λ b. cond b (laid e (getD m (source e x y) 0) old) old) same)
       (cases-bool now-in)
 
 -- one element more

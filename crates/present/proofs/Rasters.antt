@@ -20,9 +20,9 @@ module _ (w h : ℕ) where
   pub rastered : (f : ℕ → ℕ → ℕ) (pixels : List ℕ) → length pixels ≡ w * h → Everywhere w h (λ x y. at w pixels x y ≡ f x y) → pixels ≡ raster w h f
   rastered f pixels long each =
       fill-by-all (λ k. f (k % w) (k / w)) pixels (w * h) 0 long
-        (λ k l.
-           let some = wide w h k l in
-           ap (λ i. getD pixels i 0) (sym (div-add-mod' k w)) ∙ each (k % w) (k / w) (mod-below k w some) (div-below k w h some (rw (mul-comm h w) l)))
+      (λ k l.
+      let some = wide w h k l in
+      ap (λ i. getD pixels i 0) (sym (div-add-mod' k w)) ∙ each (k % w) (k / w) (mod-below k w some) (div-below k w h some (rw (mul-comm h w) l)))
 
   pub at-raster : (f : ℕ → ℕ → ℕ) (x y : ℕ) → x < w → y < h → at w (raster w h f) x y ≡ f x y
   at-raster f x y hx hy =

@@ -17,7 +17,7 @@ module _ (lit : Bool) (size : Size) (f : ℕ → ℕ → ℕ) (on : lit ≡ true
   pub glass-pixel-at : (x y : ℕ) → x < size .width → y < size .height → glass-pixel lit size f x y ≡ Some (f x y)
   glass-pixel-at x y hx hy =
       cond-true (lit && (ltb x (size .width) && ltb y (size .height))) (Some (f x y)) None
-        (and-from lit _ on (and-from (ltb x (size .width)) (ltb y (size .height)) (lt-ltb x (size .width) hx) (lt-ltb y (size .height) hy)))
+      (and-from lit _ on (and-from (ltb x (size .width)) (ltb y (size .height)) (lt-ltb x (size .width) hx) (lt-ltb y (size .height) hy)))
 
   -- the pixel that place i of the rows has
   pub glass-place : (i : ℕ) → i < size .width * size .height → glass-pixel lit size f (i % size .width) (i / size .width) ≡ Some (f (i % size .width) (i / size .width))

@@ -1,6 +1,6 @@
 -- Scenes all of whose elements are sound.
 use Prim.Native.Nat.{ℕ, zero, suc, _+_, _<_}
-use mathlib.Core.Path.{_≡_, _∙_}
+use mathlib.Core.Path.{_≡_, refl}
 use mathlib.Core.List.{List, [], _∷_}
 use mathlib.Core.Logic.{⊎-elim}
 use mathlib.Core.Bool.{Bool, true, false, _&&_}
@@ -42,3 +42,7 @@ pub show-sound : (lit : Bool) (es : List Element) (n : ℕ) → Ok tt ≡ show-a
 show-sound false es n e = let z : _≡_ {A = ℕ} 0 1 = cc in absurd (omega arith)
 show-sound true es n e =
     ⊎-elim (λ t. and-parts (leb (length es) most-elements) (all-sound n es) t .1) (λ f. let g = rw f at e in let z : _≡_ {A = ℕ} 0 1 = cc in absurd (omega arith)) (cases-bool (showable es n))
+
+pub show-lit : (lit : Bool) (es : List Element) (n : ℕ) → Ok tt ≡ show-answer lit es n → lit ≡ true
+show-lit true es n e = refl
+show-lit false es n e = let z : _≡_ {A = ℕ} 0 1 = cc in absurd (omega arith)

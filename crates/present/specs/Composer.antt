@@ -12,11 +12,15 @@ use Rattle.model.specs.Output.{Answer, accepted, output-fault, on-answer, show-
 use Rattle.model.specs.Scene.{picture}
 use Rattle.present.specs.declared.composer.Composer.{Composer}
 use Rattle.present.specs.Frame.{fits, extent, blackened, painted}
-use Rattle.present.specs.Raster.{raster}
-use Rattle.present.specs.Showing.{Act, switched-off, switched-on, showed}
+use Rattle.present.specs.Raster.{at, raster}
+use Rattle.present.specs.Showing.{Glass, Act, switched-off, switched-on, showed}
 
 abbrev pub composer-size : Composer → Size
 composer-size c = extent (c .width) (c .height) (length (now (c .frame)))
+
+-- the frame memory, whatever the pixel memory holds
+abbrev pub composer-glass : Composer → Glass
+composer-glass c _ x y = at (c .width) (now (c .frame)) x y
 
 -- whether a dark composer is lit by switching it on
 abbrev pub lights : Composer → Bool
@@ -42,14 +46,11 @@ pub record Composer-left (c : Composer) (act : Act) (d : Composer) : Type 0 wher
   pub frame : now (d .frame) ≡ frame-after c act
   pub lit : d .lit ≡ lit-after c act
 
--- what is answered where a composer over a frame memory of n pixels is lit and is to show a scene with a pixel memory of k pixels
-abbrev pub compose-answer : Size → ℕ → List Element → ℕ → Answer
-compose-answer size n scene k =
-    then (cond (fits (size .width) (size .height) n) (Ok tt) (output-fault 19)) (show-answer true scene k)
+-- what is answered where a composer with sides w and h over a frame memory of n pixels is lit and is to show a scene with a pixel memory of k pixels
+abbrev pub compose-answer : ℕ → ℕ → ℕ → List Element → ℕ → Answer
+compose-answer w h n scene k = then (cond (fits w h n) (Ok tt) (output-fault 19)) (show-answer true scene k)
 
 -- what the frame memory holds then
-abbrev pub composed : Size → List ℕ → List Element → List ℕ → List ℕ
-composed size frame scene m =
-    cond (fits (size .width) (size .height) (length frame))
-    (cond (showable scene (length m)) (raster (size .width) (size .height) (picture scene m)) (blackened frame))
-    frame
+abbrev pub composed : ℕ → ℕ → List ℕ → List Element → List ℕ → List ℕ
+composed w h frame scene m =
+    cond (fits w h (length frame)) (cond (showable scene (length m)) (raster w h (picture scene m)) (blackened frame)) frame

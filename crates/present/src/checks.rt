@@ -40,7 +40,11 @@ pub fn check_switch_on(size: Size) -> Result<(), Fault>
     ensures { λ r. ⌜ r ≡ on-answer size ⌝ }
 {
     if size.width == 0 && size.height == 0 {
-        return Err(Fault { number: 19, station: OUTPUT, word: 0 });
+        return Err(Fault {
+            number: 19,
+            station: OUTPUT,
+            word: 0,
+        });
     }
     Ok(())
 }
@@ -50,10 +54,18 @@ pub fn check_show(lit: bool, scene: &[Element], pixels: usize) -> Result<(), Fau
     ensures { λ r. ⌜ r ≡ show-answer lit (now (scene .entry)) pixels ⌝ }
 {
     if !lit {
-        return Err(Fault { number: 17, station: OUTPUT, word: 0 });
+        return Err(Fault {
+            number: 17,
+            station: OUTPUT,
+            word: 0,
+        });
     }
     if scene.len() > 32 || !are_sound(scene, pixels) {
-        return Err(Fault { number: 18, station: OUTPUT, word: 0 });
+        return Err(Fault {
+            number: 18,
+            station: OUTPUT,
+            word: 0,
+        });
     }
     Ok(())
 }

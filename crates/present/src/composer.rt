@@ -1,10 +1,12 @@
 // The composer: a presenter that draws each scene into a frame memory, which is its glass.
 ghost use mathlib.Core.Path.{_≡_};
-ghost use mathlib.Core.Bool.{false};
+ghost use mathlib.Core.Bool.{true, false};
 ghost use lib.ListN.{length};
 ghost use denote.Ref.{now, name};
-ghost use Rattle.present.specs.Composer.{Composer-left, composer-size};
-ghost use Rattle.present.specs.Raster.{at};
+ghost use Rattle.std.specs.declared.result.Result.the-variants.{Ok};
+ghost use Rattle.model.specs.Output.{accepted, on-answer, show-answer};
+ghost use Rattle.present.specs.Composer.{Composer-left, composer-glass, composer-size};
+ghost use Rattle.present.specs.Showing.{Black, Shows, switched-on, showed};
 use super::checks::check_show;
 use super::checks::check_switch_on;
 use super::frame::clear_frame;
@@ -41,6 +43,33 @@ impl<'a> Composer<'a> {
             lit: false,
         }
     }
+
+    // Lights a dark composer that can be lit, with a black frame.
+    fn light(&mut self)
+        ensures lights { λ _. ⌜ now (self .exit) .lit ≡ true ⌝ }
+        ensures size { λ _. ⌜ composer-size (now (self .exit)) ≡ composer-size (now (self .entry)) ⌝ }
+        ensures black { λ _. ⌜ Black (composer-glass (now (self .exit))) (composer-size (now (self .entry))) ⌝ }
+        ensures left { λ _. ⌜ (on-answer (composer-size (now (self .entry))) ≡ Ok tt → now (self .entry) .lit ≡ false → Composer-left (now (self .entry)) switched-on (now (self .exit))) ⌝ }
+    {
+        clear_frame(self.frame);
+        self.lit = true;
+    }
+
+    // Checks a scene and draws it.
+    fn show_scene(&mut self, scene: &[Element], memory: &[u32]) -> Result<(), Fault>
+        ensures answer { λ r. ⌜ r ≡ show-answer (now (self .entry) .lit) (now (scene .entry)) (length (now (memory .entry))) ⌝ }
+        ensures refused { λ r. ⌜ (accepted r ≡ false → now (self .exit) ≡ now (self .entry)) ⌝ }
+        ensures lights { λ r. ⌜ (accepted r ≡ true → now (self .exit) .lit ≡ true) ⌝ }
+        ensures shows { λ r. ⌜ (accepted r ≡ true → Shows (composer-glass (now (self .exit))) (composer-size (now (self .entry))) (now (scene .entry)) (now (memory .entry))) ⌝ }
+        ensures size { λ _. ⌜ composer-size (now (self .exit)) ≡ composer-size (now (self .entry)) ⌝ }
+        ensures left { λ _. ⌜ Composer-left (now (self .entry)) (showed (now (scene .entry)) (now (memory .entry))) (now (self .exit)) ⌝ }
+    {
+        check_show(self.lit, scene, memory.len())?;
+        let width = self.width;
+        let height = self.height;
+        draw_frame(self.frame, width, height, scene, memory);
+        Ok(())
+    }
 }
 
 pub impl<'a> Presenter for Composer<'a> as ComposerPresenter {
@@ -48,7 +77,7 @@ pub impl<'a> Presenter for Composer<'a> as ComposerPresenter {
 
     ghost lit = { λ s. s .lit };
 
-    ghost glass = { λ s _ x y. at (s .width) (now (s .frame)) x y };
+    ghost glass = { composer-glass };
 
     ghost left = { Composer-left };
 
@@ -57,7 +86,7 @@ pub impl<'a> Presenter for Composer<'a> as ComposerPresenter {
     }
 
     fn is_lit(&self) -> bool {
-        self.lit
+        self.lit // never while the size is 0 x 0
     }
 
     fn switch_off(&mut self) {
@@ -65,20 +94,15 @@ pub impl<'a> Presenter for Composer<'a> as ComposerPresenter {
     }
 
     fn switch_on(&mut self) -> Result<(), Fault> {
-        check_switch_on(frame_size(self.width, self.height, self.frame.len()))?;
+        check_switch_on(self.size())?;
         if !self.lit {
-            clear_frame(self.frame);
-            self.lit = true;
+            self.light();
         }
         Ok(())
     }
 
     fn show(&mut self, scene: &[Element], memory: &[u32]) -> Result<(), Fault> {
-        check_show(self.lit, scene, memory.len())?;
-        let width = self.width;
-        let height = self.height;
-        draw_frame(self.frame, width, height, scene, memory);
-        Ok(())
+        self.show_scene(scene, memory)
     }
 }
 

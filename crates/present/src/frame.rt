@@ -13,7 +13,11 @@ use model::Size;
 fn has_sides(width: u32, height: u32, pixels: usize) -> bool
     ensures { λ r. ⌜ r ≡ fits width height pixels ⌝ }
 {
-    1 <= width && width <= 4096 && 1 <= height && height <= 4096 && pixels == width as usize * height as usize
+    1 <= width
+        && width <= 4096
+        && 1 <= height
+        && height <= 4096
+        && pixels == width as usize * height as usize
 }
 
 // The size of an output over a frame memory of `pixels` pixels: 0 x 0 where that does not fit the sides.
@@ -24,7 +28,10 @@ pub fn frame_size(width: u32, height: u32, pixels: usize) -> Size
     if has_sides(width, height, pixels) {
         Size { width, height }
     } else {
-        Size { width: 0, height: 0 }
+        Size {
+            width: 0,
+            height: 0,
+        }
     }
 }
 

@@ -1,6 +1,5 @@
 use mathlib.Core.Path.{_∙_}
 use borrow.Author.Needs.{needs}
-
 use Rattle.pixel.proofs.Packing.{packed, low-byte}
 use Rattle.model.specs.Pixel.{blended}
 use Rattle.pixel.proofs.over.blend.Needs as need

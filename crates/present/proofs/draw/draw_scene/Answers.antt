@@ -24,4 +24,4 @@ loop-e-again c x y hx hy =
 pub returns : need.returns
 returns c =
     rastered (c .args .w) (c .args .h) _ (c .loop-e .frame) (c .loop-e .kept .frame ∙ c .clear .kept .frame ∙ c .pre .0)
-      (λ x y hx hy. c .loop-e .inv x y hx hy ∙ ap (λ s. picture s (c .args .memory .now) x y) (take-all _ _ (c .loop-e-test .left)))
+    (λ x y hx hy. c .loop-e .inv x y hx hy ∙ ap (λ s. picture s (c .args .memory .now) x y) (take-all _ _ (c .loop-e-test .left)))

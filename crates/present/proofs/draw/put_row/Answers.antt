@@ -17,11 +17,11 @@ returns c i j h =
     let start = c .args .y * c .args .w + c .args .x in
     let n = length from in
     row-written (c .args .w) (c .args .y) (c .args .x) n (start + n - start) (c .args .frame .now) (c .draw-row .last .to)
-      (λ k d. laid (c .args .e .now) (getD from k 0) d)
-      (omega arith) (c .pre .0) (c .pre .1) (search (needs, places))
-      (λ k l.
-         let short : k < n = omega arith in
-         c .draw-row .ensures k (search (needs, places))
-         ∙ cond-true (ltb k n) _ _ (lt-ltb k n short)
-         ∙ ap (laid (c .args .e .now) (getD from k 0)) (search (needs, places)))
-      i j h
+    (λ k d. laid (c .args .e .now) (getD from k 0) d)
+    (omega arith) (c .pre .0) (c .pre .1) (search (needs, places))
+    (λ k l.
+    let short : k < n = omega arith in
+    c .draw-row .ensures k (search (needs, places))
+    ∙ cond-true (ltb k n) _ _ (lt-ltb k n short)
+    ∙ ap (laid (c .args .e .now) (getD from k 0)) (search (needs, places)))
+    i j h

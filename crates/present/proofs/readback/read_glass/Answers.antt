@@ -24,11 +24,11 @@ loop-i-again g c =
     let within : i < length (c .loop-i .pixels) = omega arith in
     let placed : i < size .width * size .height = omega arith in
     below-more _ _
-      (λ k h. let ne : k ≢ i = omega arith in rw getD-set-other (c .loop-i .inv k h))
-      (getD-set-same (c .loop-i .pixels) i (c .unwrap-or .result) 0 within
-        ∙ c .unwrap-or .ensures
-        ∙ ap (λ o. valueOr o 0)
-            (c .pixel .ensures ∙ ap (λ s. glass-pixel lit s f (i % size .width) (i / size .width)) (sym (c .size-size .ensures .value)) ∙ glass-place lit size f on i placed))
+    (λ k h. let ne : k ≢ i = omega arith in rw getD-set-other (c .loop-i .inv k h))
+    (getD-set-same (c .loop-i .pixels) i (c .unwrap-or .result) 0 within
+    ∙ c .unwrap-or .ensures
+    ∙ ap (λ o. valueOr o 0)
+    (c .pixel .ensures ∙ ap (λ s. glass-pixel lit s f (i % size .width) (i / size .width)) (sym (c .size-size .ensures .value)) ∙ glass-place lit size f on i placed))
 
 pub returns : need.returns
 returns g c =
@@ -38,6 +38,6 @@ returns g c =
     record {
       reads = search needs;
       pixels =
-        fill-by-all (λ k. f (k % size .width) (k / size .width)) (c .loop-i .pixels) (size .width * size .height) 0 long (λ k h. c .loop-i .inv k (omega arith))
-        ∙ ap (λ s. raster (s .width) (s .height) f) (c .size-size .ensures .value);
+          fill-by-all (λ k. f (k % size .width) (k / size .width)) (c .loop-i .pixels) (size .width * size .height) 0 long (λ k h. c .loop-i .inv k (omega arith))
+          ∙ ap (λ s. raster (s .width) (s .height) f) (c .size-size .ensures .value);
     }

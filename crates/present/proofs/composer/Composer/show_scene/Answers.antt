@@ -6,8 +6,8 @@ use Rattle.model.specs.Output.{accepted, show-answer}
 use Rattle.present.specs.Frame.{extent, painted}
 use Rattle.present.specs.Raster.{at}
 use Rattle.present.proofs.Frames.{at-painted}
-use Rattle.present.proofs.Sounds.{show-sound}
-use Rattle.present.proofs.composer.ComposerPresenter.show.Needs as need
+use Rattle.present.proofs.Sounds.{show-sound, show-lit}
+use Rattle.present.proofs.composer.Composer.show_scene.Needs as need
 
 pub returns : need.returns
 returns c =
@@ -20,7 +20,7 @@ returns c =
     record {
       answer = ok;
       refused = search needs;
-      lights = search needs;
+      lights = λ _. show-lit (s .lit) scene (length m) ok;
       shows = λ _ _ _ x y hx hy. ap (λ ps. at (s .width) ps x y) drew ∙ at-painted (s .width) (s .height) frame x y hx hy scene m (show-sound (s .lit) scene (length m) ok);
       size = ap (extent (s .width) (s .height)) (c .draw-frame .kept .frame);
       left = record { lender = refl; width = refl; height = refl; frame = drew ∙ sym (cond-true (accepted (show-answer (s .lit) scene (length m))) (painted (s .width) (s .height) frame scene m) frame (ap accepted (sym ok))); lit = refl };

@@ -7,7 +7,7 @@ use Rattle.model.specs.Output.{show-answer, then}
 use Rattle.present.specs.Composer.{composed}
 use Rattle.present.proofs.Composing.{composed-frame}
 use Rattle.present.proofs.Frames.{on-fits}
-use Rattle.present.proofs.lent.compose.Needs as need
+use Rattle.present.proofs.lent.compose_sides.Needs as need
 
 pub returns : need.returns
 returns c =
@@ -18,7 +18,7 @@ returns c =
     let m = c .args .memory .now in
     let found = composed-frame c0 d scene m (new .dark) (c .first-frame .ensures .left) in
     let lender = found .1 ∙ new .lender in
-    let filled : now (d .frame) ≡ composed (c .args .size) (c .args .frame .now) scene m = found .0 ∙ rw (new .width, new .height, new .frame) in
+    let filled : now (d .frame) ≡ composed (c .args .width) (c .args .height) (c .args .frame .now) scene m = found .0 ∙ rw (new .width, new .height, new .frame) in
     record {
       answer = c .first-frame .ensures .answer ∙ ap (λ a. then a (show-answer true scene (length m))) (on-fits (c0 .width) (c0 .height) (length (now (c0 .frame)))) ∙ rw (new .width, new .height, new .frame);
       frame = search needs;
