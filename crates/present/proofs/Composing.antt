@@ -15,10 +15,10 @@ use Rattle.model.specs.Output.{accepted, output-fault, on-answer, show-answer, 
 use Rattle.model.specs.Scene.{picture}
 use Rattle.present.specs.declared.composer.Composer.{Composer}
 use Rattle.present.specs.Composer.{composer-size, lights, frame-after, Composer-left, composed}
-use Rattle.present.specs.Frame.{fits, blackened, painted}
-use Rattle.present.specs.Raster.{raster}
+use Rattle.raster.specs.Frame.{fits, blackened, painted}
+use Rattle.raster.specs.Raster.{raster}
 use Rattle.present.specs.Showing.{switched-on, showed, Lit-and-shown}
-use Rattle.present.proofs.Frames.{on-fits, length-blackened}
+use Rattle.raster.proofs.Frames.{on-fits, length-blackened}
 
 -- a lit output accepts just what can be shown
 pub show-accepted : (lit : Bool) (scene : List Element) (n : ℕ) → lit ≡ true → accepted (show-answer lit scene n) ≡ showable scene n

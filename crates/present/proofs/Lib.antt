@@ -1,7 +1,3 @@
-pub mod Rows
-pub mod Sounds
-pub mod Drawing
-pub mod Rasters
+pub mod Showings
 pub mod Readings
-pub mod Frames
 pub mod Composing

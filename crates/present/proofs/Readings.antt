@@ -11,7 +11,7 @@ use Rattle.std.proofs.shelf.Bits.{div-below, mod-below}
 use Rattle.std.proofs.shelf.Tests.{cond-true, and-from, lt-ltb}
 use Rattle.model.specs.declared.size.Size.{Size}
 use Rattle.present.specs.Readback.{glass-pixel}
-use Rattle.present.proofs.Rasters.{wide}
+use Rattle.raster.proofs.Rasters.{wide}
 
 module _ (lit : Bool) (size : Size) (f : ℕ → ℕ → ℕ) (on : lit ≡ true) where
   pub glass-pixel-at : (x y : ℕ) → x < size .width → y < size .height → glass-pixel lit size f x y ≡ Some (f x y)

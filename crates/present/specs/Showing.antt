@@ -10,7 +10,7 @@ use Rattle.model.specs.declared.size.Size.{Size}
 use Rattle.model.specs.Buffer.{Same-on}
 use Rattle.model.specs.Pixel.{black}
 use Rattle.model.specs.Scene.{picture}
-use Rattle.present.specs.Raster.{Everywhere}
+use Rattle.raster.specs.Raster.{Everywhere}
 
 -- what a presenter can be asked to do
 pub data Act : Type 0 where

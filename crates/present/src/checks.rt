@@ -1,39 +1,14 @@
 // The checks that every presenter makes before it shows a scene.
 ghost use mathlib.Core.Path.{_≡_};
 ghost use lib.ListN.{length};
-ghost use Rattle.model.specs.Buffer.{sound, all-sound};
 ghost use Rattle.model.specs.Output.{on-answer, show-answer};
 use model::Element;
 use model::Fault;
 use model::Size;
+use raster::are_sound;
 
 // The station of every check that an output makes.
 const OUTPUT: u32 = 9;
-
-// Whether an element is as a buffer of a pixel memory of `pixels` pixels may be.
-fn is_sound(e: &Element, pixels: usize) -> bool
-    ensures { λ r. ⌜ r ≡ sound pixels (now (e .entry)) ⌝ }
-{
-    1 <= e.width
-        && e.width <= 4096
-        && 1 <= e.height
-        && e.height <= 4096
-        && e.width <= e.stride
-        && e.stride <= 4096
-        && e.format <= 1
-        && e.first as usize + e.stride as usize * e.height as usize <= pixels
-}
-
-pub(crate) fn are_sound(scene: &[Element], pixels: usize) -> bool
-    ensures { λ r. ⌜ r ≡ all-sound pixels (now (scene .entry)) ⌝ }
-{
-    for e in scene {
-        if !is_sound(e, pixels) {
-            return false;
-        }
-    }
-    true
-}
 
 // Whether an output of this size can be switched on.
 pub fn check_switch_on(size: Size) -> Result<(), Fault>

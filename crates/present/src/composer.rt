@@ -9,15 +9,15 @@ ghost use Rattle.present.specs.Composer.{Composer-left, composer-glass, compos
 ghost use Rattle.present.specs.Showing.{Black, Shows, switched-on, showed};
 use super::checks::check_show;
 use super::checks::check_switch_on;
-use super::frame::clear_frame;
-use super::frame::draw_frame;
-use super::frame::frame_pixel;
-use super::frame::frame_size;
 use super::presenter::Presenter;
 use super::readback::Readback;
 use model::Element;
 use model::Fault;
 use model::Size;
+use raster::clear_frame;
+use raster::draw_frame;
+use raster::frame_pixel;
+use raster::frame_size;
 
 #[derive(Drop)]
 pub struct Composer<'a> {

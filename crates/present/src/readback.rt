@@ -3,7 +3,7 @@ ghost use mathlib.Core.Path.{_≡_};
 ghost use mathlib.Core.Bool.{cond};
 ghost use lib.ListN.{length};
 ghost use Rattle.present.specs.Readback.{glass-pixel, readable};
-ghost use Rattle.present.specs.Raster.{raster};
+ghost use Rattle.raster.specs.Raster.{raster};
 use super::presenter::Presenter;
 
 // A presenter whose glass can be read pixel by pixel.

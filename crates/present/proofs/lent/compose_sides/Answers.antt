@@ -6,7 +6,7 @@ use denote.Ref.{now}
 use Rattle.model.specs.Output.{show-answer, then}
 use Rattle.present.specs.Composer.{composed}
 use Rattle.present.proofs.Composing.{composed-frame}
-use Rattle.present.proofs.Frames.{on-fits}
+use Rattle.raster.proofs.Frames.{on-fits}
 use Rattle.present.proofs.lent.compose_sides.Needs as need
 
 pub returns : need.returns

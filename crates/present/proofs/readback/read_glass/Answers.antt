@@ -9,7 +9,7 @@ use borrow.Author.Count.{below-more}
 use borrow.Author.Needs.{needs}
 use Rattle.std.specs.Options.{valueOr}
 use Rattle.std.proofs.shelf.Counted.{fill-by-all}
-use Rattle.present.specs.Raster.{raster}
+use Rattle.raster.specs.Raster.{raster}
 use Rattle.present.specs.Readback.{glass-pixel}
 use Rattle.present.proofs.Readings.{glass-place}
 use Rattle.present.proofs.readback.read_glass.Needs as need

@@ -3,9 +3,9 @@ use mathlib.Core.Bool.{true, _&&_, not}
 use Rattle.std.proofs.shelf.Tests.{cond-true, and-from, not-from-false, or-left}
 use Rattle.model.specs.Output.{accepted, on-answer}
 use Rattle.present.specs.Composer.{composer-size}
-use Rattle.present.specs.Frame.{extent, blackened}
-use Rattle.present.specs.Raster.{at}
-use Rattle.present.proofs.Frames.{at-blackened}
+use Rattle.raster.specs.Frame.{extent, blackened}
+use Rattle.raster.specs.Raster.{at}
+use Rattle.raster.proofs.Frames.{at-blackened}
 use Rattle.present.proofs.composer.Composer.light.Needs as need
 
 pub returns : need.returns

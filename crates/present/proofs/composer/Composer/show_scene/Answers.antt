@@ -3,10 +3,10 @@ use borrow.Author.Needs.{needs}
 use lib.ListN.{length}
 use Rattle.std.proofs.shelf.Tests.{cond-true}
 use Rattle.model.specs.Output.{accepted, show-answer}
-use Rattle.present.specs.Frame.{extent, painted}
-use Rattle.present.specs.Raster.{at}
-use Rattle.present.proofs.Frames.{at-painted}
-use Rattle.present.proofs.Sounds.{show-sound, show-lit}
+use Rattle.raster.specs.Frame.{extent, painted}
+use Rattle.raster.specs.Raster.{at}
+use Rattle.raster.proofs.Frames.{at-painted}
+use Rattle.present.proofs.Showings.{show-sound, show-lit}
 use Rattle.present.proofs.composer.Composer.show_scene.Needs as need
 
 pub returns : need.returns

@@ -1,0 +1,4 @@
+pub mod Raster
+pub mod Sound
+pub mod Clip
+pub mod Frame

@@ -1,0 +1,11 @@
+pub mod Bytes
+pub mod Lines
+pub mod Words
+pub mod Number
+pub mod Pixel
+pub mod Argument
+pub mod SceneLine
+pub mod Scene
+pub mod Told
+pub mod Items
+pub mod Message

@@ -1,0 +1,3 @@
+// Tests of scene files.
+#[cfg(test)]
+mod tests;

@@ -1,0 +1,44 @@
+// The answer of a call, as a line of a report.
+ghost use mathlib.Core.Path.{_≡_};
+ghost use Rattle.std.specs.Of.Vec.{vec-items};
+ghost use Rattle.report.specs.Output.{Appends};
+ghost use Rattle.report.specs.Report.{answer-fields, answer-line};
+use crate::fields::write_number_line;
+use model::Fault;
+use std::alloc::AllocError;
+
+// `answer NUMBER STATION WORD`, with three zeros for an acceptance.
+pub fn write_answer(out: &mut Vec<u8>, answer: &Result<(), Fault>) -> Result<(), AllocError>
+    ensures { λ r. ⌜ Appends r (vec-items (now (out .entry))) (answer-line (now (answer .entry))) (vec-items (now (out .exit))) ⌝ }
+{
+    write_number_line(out, b"answer", &fields(answer))
+}
+
+// The numbers of an answer.
+fn fields(answer: &Result<(), Fault>) -> [u32; 3]
+    ensures { λ r. ⌜ r ≡ answer-fields (now (answer .entry)) ⌝ }
+{
+    match answer {
+        Ok(()) => [0, 0, 0],
+        Err(fault) => [fault.number, fault.station, fault.word],
+    }
+}
+
+#[cfg(test)]
+mod tests {
+    use super::*;
+    use std::test::*;
+
+    #[test]
+    fn refusal_and_acceptance(rt: LibcRuntime) -> Result<(), Fail> {
+        let mut out = Vec::new(rt.alloc());
+        let fault = Fault {
+            number: 18,
+            station: 9,
+            word: 4_294_967_295,
+        };
+        write_answer(&mut out, &Err(fault))?;
+        write_answer(&mut out, &Ok(()))?;
+        check_eq(out.as_slice(), b"answer 18 9 4294967295\nanswer 0 0 0\n")
+    }
+}
