@@ -1,20 +1,21 @@
 // Shows the scene of a file on a composer, and prints what stands on the glass.
 mod options;
-mod report;
+mod output;
 mod show;
 
+use model::Size;
 use options::HELP;
 use options::MisuseDisplay;
 use options::Options;
 use options::read_options;
-use recording::BadLineDisplay;
+use output::Report;
+use output::report_scene;
+use recording::Console;
 use recording::parse_scene;
-use recording::write_ppm;
-use report::Report;
-use report::report_scene;
+use recording::problem::BadLineDisplay;
+use report::write_ppm;
 use std::env;
 use std::fs;
-use std::io;
 use std::io::Read;
 use std::io::Write;
 
@@ -54,7 +55,7 @@ fn draw(rt: &LibcRuntime, scene: Option<String>, ppm: Option<String>) -> Result<
         }
     };
     match report_scene(rt.alloc(), &file) {
-        Ok(report) => print(rt, &report, ppm),
+        Ok(report) => print(rt, file.console, &report, ppm),
         Err(_) => stop(
             rt,
             "out of memory for the pixel memory, the frame or the report",
@@ -64,34 +65,47 @@ fn draw(rt: &LibcRuntime, scene: Option<String>, ppm: Option<String>) -> Result<
 
 // The text of the scene file, or of standard input.
 fn read_scene(rt: &LibcRuntime, scene: Option<String>) -> Result<Vec<u8>, Stopped> {
-    let read = match &scene {
-        Some(path) => fs::read(rt, path.as_str()),
+    match scene {
+        Some(path) => read_file(rt, path.as_str()),
         None => read_input(rt),
-    };
-    match read {
+    }
+}
+
+fn read_file(rt: &LibcRuntime, path: &str) -> Result<Vec<u8>, Stopped> {
+    match fs::read(rt, path) {
         Ok(text) => Ok(text),
         Err(error) => {
-            let name = match &scene {
-                Some(path) => path.as_str(),
-                None => "standard input",
-            };
-            let _ = eprintln!(rt, "{name} cannot be read: {error}");
+            let _ = eprintln!(rt, "{path} cannot be read: {error}");
             Err(Stopped)
         }
     }
 }
 
-fn read_input(rt: &LibcRuntime) -> io::Result<Vec<u8>> {
+fn read_input(rt: &LibcRuntime) -> Result<Vec<u8>, Stopped> {
     let mut text = Vec::new(rt.alloc());
-    rt.stdin().read_to_end(&mut text)?;
-    Ok(text)
+    match rt.stdin().read_to_end(&mut text) {
+        Ok(_) => Ok(text),
+        Err(error) => {
+            let _ = eprintln!(rt, "standard input cannot be read: {error}");
+            Err(Stopped)
+        }
+    }
 }
 
 // The PPM is written first, so that nothing is printed where it cannot be.
-fn print(rt: &LibcRuntime, report: &Report, ppm: Option<String>) -> Result<(), Stopped> {
+fn print(
+    rt: &LibcRuntime,
+    console: Console,
+    report: &Report,
+    ppm: Option<String>,
+) -> Result<(), Stopped> {
     if let Some(path) = &ppm {
         if report.shown {
-            save(rt, report, path.as_str())?;
+            let size = Size {
+                width: console.width,
+                height: console.height,
+            };
+            save(rt, size, report.pixels.as_slice(), path.as_str())?;
         }
     }
     match rt.stdout().write_all(report.text.as_slice()) {
@@ -103,9 +117,9 @@ fn print(rt: &LibcRuntime, report: &Report, ppm: Option<String>) -> Result<(), S
     }
 }
 
-fn save(rt: &LibcRuntime, report: &Report, path: &str) -> Result<(), Stopped> {
+fn save(rt: &LibcRuntime, size: Size, pixels: &[u32], path: &str) -> Result<(), Stopped> {
     let mut picture = Vec::new(rt.alloc());
-    if write_ppm(&mut picture, report.size, report.pixels.as_slice()).is_err() {
+    if write_ppm(&mut picture, size, pixels).is_err() {
         return stop(rt, "out of memory for the PPM");
     }
     match fs::write(rt, path, picture.as_slice()) {

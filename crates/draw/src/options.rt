@@ -2,7 +2,7 @@
 use std::env::Args;
 use std::fmt;
 
-pub const HELP: &str = "draw [--ppm FILE] [SCENE]
+pub(crate) const HELP: &str = "draw [--ppm FILE] [SCENE]
 
 Shows the scene of the file SCENE, or of standard input, on a composer.
 Prints the answer and, if it is 0 0 0, the CRC-32 of the glass and its rows.
@@ -12,7 +12,7 @@ Prints the answer and, if it is 0 0 0, the CRC-32 of the glass and its rows.
 ";
 
 #[derive(Drop)]
-pub enum Options {
+pub(crate) enum Options {
     Help,
     Draw {
         scene: Option<String>,
@@ -22,13 +22,13 @@ pub enum Options {
 
 // What is wrong with the words.
 #[derive(Clone, Copy)]
-pub enum Misuse {
+pub(crate) enum Misuse {
     UnknownOption,
     NoPpmFile,
     SecondScene,
 }
 
-pub impl fmt::Display for Misuse as MisuseDisplay {
+pub(crate) impl fmt::Display for Misuse as MisuseDisplay {
     fn fmt<W: fmt::Write>(&self, f: &mut fmt::Formatter<W>) -> fmt::Result {
         match *self {
             Misuse::UnknownOption => write!(f, "an option that draw does not have"),
@@ -38,7 +38,7 @@ pub impl fmt::Display for Misuse as MisuseDisplay {
     }
 }
 
-pub fn read_options(args: Args) -> Result<Options, Misuse> {
+pub(crate) fn read_options(args: Args) -> Result<Options, Misuse> {
     let mut scene = None;
     let mut ppm = None;
     let mut names_ppm = false;

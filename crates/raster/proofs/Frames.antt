@@ -8,7 +8,7 @@ use native.Mathlib.Omega.{arith}
 use lib.Dec.{eqb}
 use lib.ListN.{length}
 use Rattle.std.proofs.shelf.Lists.{length-replicate}
-use Rattle.std.proofs.shelf.Tests.{cases-bool, cond-true, cond-false, and-parts, and-from}
+use Rattle.std.proofs.shelf.Tests.{cases-bool, cond-true, cond-false, and-parts, and-from, and-left, eq-eqb}
 use Rattle.std.proofs.shelf.Ways.{tells}
 use Rattle.std.specs.declared.result.Result.the-variants.{Ok}
 use Rattle.model.specs.declared.element.Element.{Element}
@@ -17,21 +17,29 @@ use Rattle.model.specs.Buffer.{all-sound}
 use Rattle.model.specs.Output.{output-fault, on-answer}
 use Rattle.model.specs.Pixel.{black}
 use Rattle.model.specs.Scene.{picture}
-use Rattle.raster.specs.Frame.{fits, extent, blackened, painted}
+use Rattle.raster.specs.Frame.{has-sides, fits, frame-length, extent, blackened, painted}
 use Rattle.raster.specs.Raster.{at, raster}
 use Rattle.raster.proofs.Rasters.{at-raster, at-replicate, length-raster}
 
 abbrev none : Size
 none = record { width = 0; height = 0 }
 
+-- a frame memory of the length for its sides fits exactly if an output may have them
+pub fits-length : (w h : ℕ) → fits w h (frame-length w h) ≡ has-sides w h
+fits-length w h =
+    ⊎-elim
+    (λ t. and-from (has-sides w h) (eqb (frame-length w h) (w * h)) t (eq-eqb (frame-length w h) (w * h) (cond-true (has-sides w h) (w * h) 0 t)) ∙ sym t)
+    (λ f. and-left (has-sides w h) (eqb (frame-length w h) (w * h)) f ∙ sym f)
+    (cases-bool (has-sides w h))
+
 module _ (w h n : ℕ) where
-  abbrev sides : Size
+  abbrev pub sides : Size
   sides = record { width = w; height = h }
 
   pub fits-long : fits w h n ≡ true → n ≡ w * h
   fits-long t = grind (arith, tells)
 
-  extent-fits : fits w h n ≡ true → extent w h n ≡ sides
+  pub extent-fits : fits w h n ≡ true → extent w h n ≡ sides
   extent-fits t = cond-true (fits w h n) sides none t
 
   extent-none : fits w h n ≡ false → extent w h n ≡ none

@@ -13,9 +13,17 @@ use Rattle.model.specs.Pixel.{black}
 use Rattle.model.specs.Scene.{picture}
 use Rattle.raster.specs.Raster.{at, raster}
 
--- whether the sides are 1 to 4,096 and n pixels are as many as they ask for
+-- whether an output may have the sides w and h
+abbrev pub has-sides : ℕ → ℕ → Bool
+has-sides w h = leb 1 w && leb w longest && leb 1 h && leb h longest
+
+-- whether it may, and n pixels are as many as they ask for
 abbrev pub fits : ℕ → ℕ → ℕ → Bool
-fits w h n = leb 1 w && leb w longest && leb 1 h && leb h longest && eqb n (w * h)
+fits w h n = has-sides w h && eqb n (w * h)
+
+-- how many pixels they ask for; none where no output may have them
+abbrev pub frame-length : ℕ → ℕ → ℕ
+frame-length w h = cond (has-sides w h) (w * h) 0
 
 -- the size of an output over n pixels
 abbrev pub extent : ℕ → ℕ → ℕ → Size

@@ -2,7 +2,7 @@
 use Prim.Native.Nat.{ℕ, _+_, _*_, _<_, _≤_}
 use mathlib.Core.Path.{_≡_, refl, sym, ap, _∙_}
 use mathlib.Core.Logic.{⊎-elim}
-use mathlib.Core.Bool.{Bool, true, false, cond}
+use mathlib.Core.Bool.{true, cond}
 use mathlib.Core.List.{List, [], _∷_}
 use native.Mathlib.Nat.{le-mul-of-pos-right}
 use native.Mathlib.Omega.{arith}
@@ -19,10 +19,6 @@ use Rattle.recording.specs.Number.{digit, value, at-most, number, signed}
 pub number-some : (base most : ℕ) (xs : List ℕ) → 0 < length xs → number base most xs ≡ at-most most (value base 0 xs)
 number-some base most [] h = absurd (omega arith)
 number-some base most (b ∷ bs) h = refl
-
-pub number-none : (base most : ℕ) (xs : List ℕ) → length xs ≡ 0 → number base most xs ≡ None
-number-none base most [] h = refl
-number-none base most (b ∷ bs) h = absurd (omega arith)
 
 -- more digits do not make a number smaller
 too-large : (base most n : ℕ) (xs : List ℕ) → most < n → at-most most (value base n xs) ≡ None

@@ -1,17 +1,15 @@
 -- How the runs at the front of a text part it into lines and words.
-use Prim.Native.Nat.{ℕ, suc, _+_, _<_}
-use mathlib.Core.Path.{_≡_, refl, sym, ap, _∙_}
+use Prim.Native.Nat.{ℕ, _+_, _<_}
+use mathlib.Core.Path.{_≡_, refl, sym, _∙_}
 use mathlib.Core.Logic.{⊎-elim}
-use mathlib.Core.Bool.{Bool, true, false, cond, not, _||_}
+use mathlib.Core.Bool.{Bool, true, false}
 use mathlib.Core.List.{List, [], _∷_, _++_, append-nil, append-assoc}
 use native.Mathlib.Numerals.{add-one, one-add}
 use native.Mathlib.Omega.{arith}
 use lib.ListN.{length, take, drop, length-append, length-take}
 use Rattle.std.specs.shelf.Lists.{leading}
-use Rattle.std.proofs.shelf.Lists.{length-take-le}
 use Rattle.std.proofs.shelf.Sums.{leading-le-length}
-use Rattle.std.proofs.shelf.Tests.{cases-bool, not-true, not-false, or-parts}
-use Rattle.recording.specs.declared.run.Kind.{Kind}
+use Rattle.std.proofs.shelf.Tests.{cases-bool}
 use Rattle.recording.specs.declared.run.Kind.the-variants.{Blank, Word, Line}
 use Rattle.recording.specs.Bytes.{blank, comment, newline, within}
 use Rattle.recording.specs.Lines.{before, lines, lines-on}

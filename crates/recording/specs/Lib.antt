@@ -9,3 +9,4 @@ pub mod Scene
 pub mod Told
 pub mod Items
 pub mod Message
+pub mod Fits

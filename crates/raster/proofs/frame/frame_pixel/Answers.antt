@@ -8,4 +8,4 @@ pub index-frame-y : need.index-frame-y
 index-frame-y c =
     let w = c .args .width in
     let h = c .args .height in
-    rw (fits-long w h (length (c .args .frame .now)) (sym (c .if-has-sides .ensures tt))) (mul-add-lt (c .args .y) w (c .args .x) h (c .if-y-height .taken) (c .if-x-width .taken))
+    rw (fits-long w h (length (c .args .frame .now)) (sym (c .if-is-fit .ensures tt))) (mul-add-lt (c .args .y) w (c .args .x) h (c .if-y-height .taken) (c .if-x-width .taken))

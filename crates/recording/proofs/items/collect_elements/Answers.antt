@@ -1,4 +1,4 @@
-use mathlib.Core.Path.{_≡_, sym, ap, subst, _∙_}
+use mathlib.Core.Path.{sym, ap, subst, _∙_}
 use mathlib.Core.List.{List, []}
 use lib.ListN.{take, getD}
 use Rattle.std.proofs.shelf.Lists.{take-all, take-more, joined-more}

@@ -1,8 +1,7 @@
-use mathlib.Core.Path.{_≡_, sym, ap, _∙_}
+use mathlib.Core.Path.{sym}
 use native.Mathlib.Omega.{arith}
-use lib.ListN.{length}
-use Rattle.std.proofs.shelf.Tests.{eqb-true, eqb-false}
-use Rattle.recording.proofs.Digits.{number-some, number-none, no-digit, one-digit, over-most, all-digits}
+use Rattle.std.proofs.shelf.Tests.{eqb-false}
+use Rattle.recording.proofs.Digits.{number-some, no-digit, one-digit, over-most, all-digits}
 use Rattle.recording.proofs.number.read_number.Needs as need
 
 pub loop-byte-holds : need.loop-byte-holds
