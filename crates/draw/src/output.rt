@@ -33,7 +33,7 @@ use std::alloc::Global;
 
 // The text to print, and the glass itself if the scene was shown.
 #[derive(Drop)]
-pub struct Report {
+pub(crate) struct Report {
     pub text: Vec<u8>,
     pub shown: bool,
     pub pixels: Vec<u32>,
@@ -127,7 +127,7 @@ fn report_text(
 }
 
 // Shows the scene of a file on a composer, and says what stands on the glass.
-pub fn report_scene(heap: Global, file: &SceneFile) -> Result<Report, AllocError>
+pub(crate) fn report_scene(heap: Global, file: &SceneFile) -> Result<Report, AllocError>
     ensures { λ r. ⌜ made r (Reports (now (file .entry) .console) (vec-items (now (file .entry) .items))) ⌝ }
 {
     let items = file.items.as_slice();

@@ -13,7 +13,7 @@ use present::first_frame;
 use present::read_glass;
 
 // Lights an output, shows a scene and copies the glass into `pixels`, which are to be as many as the output has.
-pub fn show_on<P: Readback>(
+pub(crate) fn show_on<P: Readback>(
     p: &mut P,
     scene: &[Element],
     memory: &[u32],

@@ -12,7 +12,7 @@ use super::words::is_text;
 
 impl Words<'_> {
     // A number from 0 to 4294967295.
-    pub fn unsigned(&mut self, name: Argument) -> Result<u32, Problem>
+    pub(crate) fn unsigned(&mut self, name: Argument) -> Result<u32, Problem>
         ensures value { λ r. ⌜ r ≡ unsigned-argument name (first-of (words-left (now (self .entry)))) ⌝ }
         ensures left { λ _. ⌜ words-left (now (self .exit)) ≡ after-first (words-left (now (self .entry))) ⌝ }
     {
@@ -23,7 +23,7 @@ impl Words<'_> {
     }
 
     // A number from -2147483648 to 2147483647.
-    pub fn signed(&mut self, name: Argument) -> Result<i32, Problem>
+    pub(crate) fn signed(&mut self, name: Argument) -> Result<i32, Problem>
         ensures value { λ r. ⌜ r ≡ signed-argument name (first-of (words-left (now (self .entry)))) ⌝ }
         ensures left { λ _. ⌜ words-left (now (self .exit)) ≡ after-first (words-left (now (self .entry))) ⌝ }
     {
@@ -34,7 +34,7 @@ impl Words<'_> {
     }
 
     // A word of the console's line that stays the same.
-    pub fn console_word(&mut self, text: &[u8]) -> Result<(), Problem>
+    pub(crate) fn console_word(&mut self, text: &[u8]) -> Result<(), Problem>
         ensures value { λ r. ⌜ r ≡ console-word (now (text .entry)) (first-of (words-left (now (self .entry)))) ⌝ }
         ensures left { λ _. ⌜ words-left (now (self .exit)) ≡ after-first (words-left (now (self .entry))) ⌝ }
     {
@@ -49,7 +49,7 @@ impl Words<'_> {
     }
 
     // No word is left.
-    pub fn end(&mut self) -> Result<(), Problem>
+    pub(crate) fn end(&mut self) -> Result<(), Problem>
         ensures { λ r. ⌜ r ≡ line-end (first-of (words-left (now (self .entry)))) ⌝ }
     {
         match self.next() {

@@ -18,13 +18,13 @@ fn past_first(bytes: &[u8]) -> &[u8]
 
 // What is left of the text.
 #[derive(Drop)]
-pub struct Lines<'a> {
-    pub rest: &'a [u8],
+pub(crate) struct Lines<'a> {
+    pub(crate) rest: &'a [u8],
 }
 
 impl<'a> Lines<'a> {
     // The next line without its end.
-    pub fn next(&mut self) -> Option<&'a [u8]>
+    pub(crate) fn next(&mut self) -> Option<&'a [u8]>
         ensures line { λ r. ⌜ mapped now r ≡ first-of (lines-left (now (self .entry))) ⌝ }
         ensures left { λ _. ⌜ lines-left (now (self .exit)) ≡ after-first (lines-left (now (self .entry))) ⌝ }
         ensures shorter { λ r. ⌜ BySome r (Unit {0}) (λ _. length (now (now (self .exit) .rest)) < length (now (now (self .entry) .rest))) ⌝ }

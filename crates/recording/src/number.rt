@@ -17,7 +17,7 @@ fn digit_value(byte: u8) -> u8
 }
 
 // The number that a word writes in digits of that base, if it is at most `most`.
-pub fn read_number(word: &[u8], base: u8, most: u32) -> Option<u32>
+pub(crate) fn read_number(word: &[u8], base: u8, most: u32) -> Option<u32>
     ensures { λ r. ⌜ r ≡ number base most (now (word .entry)) ⌝ }
 {
     if word.is_empty() {
@@ -38,7 +38,7 @@ pub fn read_number(word: &[u8], base: u8, most: u32) -> Option<u32>
 }
 
 // The number from -2147483648 to 2147483647 that a word writes.
-pub fn read_signed(word: &[u8]) -> Option<i32>
+pub(crate) fn read_signed(word: &[u8]) -> Option<i32>
     ensures { λ r. ⌜ r ≡ signed (now (word .entry)) ⌝ }
 {
     match word {

@@ -25,7 +25,7 @@ fn read_times(front: &[u8]) -> Option<u32>
 }
 
 // How many pixels a word writes, and which.
-pub fn read_pixels(word: &[u8]) -> Option<(u32, u32)>
+pub(crate) fn read_pixels(word: &[u8]) -> Option<(u32, u32)>
     ensures { λ r. ⌜ r ≡ pixels-of (now (word .entry)) ⌝ }
 {
     let (front, digits) = word.split_at(word.len().saturating_sub(8));

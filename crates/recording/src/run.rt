@@ -7,7 +7,7 @@ ghost use Rattle.recording.specs.Bytes.{within};
 
 // What a run is made of.
 #[derive(Clone, Copy)]
-pub enum Kind {
+pub(crate) enum Kind {
     // Space, tab and carriage return.
     Blank,
     // What a word is made of: all but blanks and the start of a comment.
@@ -27,7 +27,7 @@ fn belongs(byte: u8, kind: Kind) -> bool
 }
 
 // How many bytes at the front are of this kind.
-pub fn run_length(bytes: &[u8], kind: Kind) -> usize
+pub(crate) fn run_length(bytes: &[u8], kind: Kind) -> usize
     ensures count { λ r. ⌜ r ≡ leading (within kind) (now (bytes .entry)) ⌝ }
     ensures bound { λ r. ⌜ r ≤ length (now (bytes .entry)) ⌝ }
 {

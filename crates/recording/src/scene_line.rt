@@ -19,7 +19,7 @@ use super::words::Words;
 use model::Element;
 
 // WIDTH HEIGHT composer PIXELS
-pub fn console_sides(line: &mut Words<'_>) -> Result<Console, Problem>
+pub(crate) fn console_sides(line: &mut Words<'_>) -> Result<Console, Problem>
     ensures { λ r. ⌜ r ≡ console-sides (words-left (now (line .entry))) ⌝ }
 {
     let width = line.unsigned(Argument::Width)?;
@@ -35,7 +35,7 @@ pub fn console_sides(line: &mut Words<'_>) -> Result<Console, Problem>
 }
 
 // X Y FIRST WIDTH HEIGHT STRIDE FORMAT
-pub fn element_line(line: &mut Words<'_>) -> Result<Element, Problem>
+pub(crate) fn element_line(line: &mut Words<'_>) -> Result<Element, Problem>
     ensures { λ r. ⌜ r ≡ element-line (words-left (now (line .entry))) ⌝ }
 {
     let x = line.signed(Argument::X)?;
@@ -57,7 +57,7 @@ pub fn element_line(line: &mut Words<'_>) -> Result<Element, Problem>
     })
 }
 
-pub fn push_item(items: &mut Vec<Item>, item: Item) -> Result<(), Problem>
+pub(crate) fn push_item(items: &mut Vec<Item>, item: Item) -> Result<(), Problem>
     ensures { λ r. ⌜ Cases r (λ _. vec-items (now (items .exit)) ≡ vec-items (now (items .entry)) ++ item ∷ []) (λ e. e ≡ NoMemory) ⌝ }
 {
     match items.push(item) {
@@ -79,7 +79,11 @@ fn read_placed(word: &[u8], first: u32, memory: u32) -> Result<(u32, u32), Probl
 }
 
 // FIRST PIXEL..
-pub fn pixels_line(line: &mut Words<'_>, memory: u32, items: &mut Vec<Item>) -> Result<(), Problem>
+pub(crate) fn pixels_line(
+    line: &mut Words<'_>,
+    memory: u32,
+    items: &mut Vec<Item>,
+) -> Result<(), Problem>
     ensures { λ r. ⌜ Cases r (λ _. pixels-line memory (vec-items (now (items .entry))) (words-left (now (line .entry))) ≡ Ok (vec-items (now (items .exit)))) (λ e. Wrong e (pixels-line memory (vec-items (now (items .entry))) (words-left (now (line .entry))))) ⌝ }
 {
     let mut first = line.unsigned(Argument::First)?;

@@ -10,7 +10,7 @@ use super::run::Kind;
 use super::run::run_length;
 
 // Whether a word is this text.
-pub fn is_text(word: &[u8], text: &[u8]) -> bool
+pub(crate) fn is_text(word: &[u8], text: &[u8]) -> bool
     ensures { λ r. ⌜ r ≡ sameBytes (now (word .entry)) (now (text .entry)) ⌝ }
 {
     word == text
@@ -18,13 +18,13 @@ pub fn is_text(word: &[u8], text: &[u8]) -> bool
 
 // What is left of the line.
 #[derive(Drop)]
-pub struct Words<'a> {
-    pub rest: &'a [u8],
+pub(crate) struct Words<'a> {
+    pub(crate) rest: &'a [u8],
 }
 
 impl<'a> Words<'a> {
     // The next word.
-    pub fn next(&mut self) -> Option<&'a [u8]>
+    pub(crate) fn next(&mut self) -> Option<&'a [u8]>
         ensures word { λ r. ⌜ mapped now r ≡ first-of (words-left (now (self .entry))) ⌝ }
         ensures left { λ _. ⌜ words-left (now (self .exit)) ≡ after-first (words-left (now (self .entry))) ⌝ }
         ensures shorter { λ r. ⌜ BySome r (Unit {0}) (λ _. length (now (now (self .exit) .rest)) < length (now (now (self .entry) .rest))) ⌝ }

@@ -4,7 +4,7 @@ ghost use Rattle.report.specs.Output.{Appends};
 use std::alloc::AllocError;
 
 // The bytes as they are.
-pub fn append(out: &mut Vec<u8>, text: &[u8]) -> Result<(), AllocError>
+pub(crate) fn append(out: &mut Vec<u8>, text: &[u8]) -> Result<(), AllocError>
     ensures { λ r. ⌜ Appends r (vec-items (now (out .entry))) (now (text .entry)) (vec-items (now (out .exit))) ⌝ }
 {
     out.extend_from_slice(text)

@@ -9,7 +9,7 @@ use crate::append::append;
 use std::alloc::AllocError;
 
 // A number in decimal.
-pub fn write_number(out: &mut Vec<u8>, n: u32) -> Result<(), AllocError>
+pub(crate) fn write_number(out: &mut Vec<u8>, n: u32) -> Result<(), AllocError>
     ensures { λ r. ⌜ Appends r (vec-items (now (out .entry))) (decimal n) (vec-items (now (out .exit))) ⌝ }
 {
     if n < 10 {
@@ -20,7 +20,7 @@ pub fn write_number(out: &mut Vec<u8>, n: u32) -> Result<(), AllocError>
 }
 
 // A number in hexadecimal, in eight digits, and the byte that ends it.
-pub fn write_hex(out: &mut Vec<u8>, n: u32, end: u8) -> Result<(), AllocError>
+pub(crate) fn write_hex(out: &mut Vec<u8>, n: u32, end: u8) -> Result<(), AllocError>
     ensures { λ r. ⌜ Appends r (vec-items (now (out .entry))) (hex n ++ (end ∷ [])) (vec-items (now (out .exit))) ⌝ }
 {
     append(out, &hex_digits(n))?;

@@ -11,7 +11,11 @@ use crate::digits::write_number;
 use std::alloc::AllocError;
 
 // A name, numbers with a space before each, and the end of the line.
-pub fn write_number_line(out: &mut Vec<u8>, name: &[u8], numbers: &[u32]) -> Result<(), AllocError>
+pub(crate) fn write_number_line(
+    out: &mut Vec<u8>,
+    name: &[u8],
+    numbers: &[u32],
+) -> Result<(), AllocError>
     ensures { λ r. ⌜ Appends r (vec-items (now (out .entry))) (now (name .entry) ++ spaced decimal (now (numbers .entry)) ++ codes "\n") (vec-items (now (out .exit))) ⌝ }
 {
     append(out, name)?;
@@ -20,7 +24,7 @@ pub fn write_number_line(out: &mut Vec<u8>, name: &[u8], numbers: &[u32]) -> Res
 }
 
 // What begins a line, a number in hexadecimal, and the end of the line.
-pub fn write_hex_line(out: &mut Vec<u8>, front: &[u8], n: u32) -> Result<(), AllocError>
+pub(crate) fn write_hex_line(out: &mut Vec<u8>, front: &[u8], n: u32) -> Result<(), AllocError>
     ensures { λ r. ⌜ Appends r (vec-items (now (out .entry))) (now (front .entry) ++ (hex n ++ codes "\n")) (vec-items (now (out .exit))) ⌝ }
 {
     append(out, front)?;
@@ -38,7 +42,7 @@ fn write_numbers(out: &mut Vec<u8>, numbers: &[u32]) -> Result<(), AllocError>
 }
 
 // A space and a number.
-pub fn write_field(out: &mut Vec<u8>, number: u32) -> Result<(), AllocError>
+pub(crate) fn write_field(out: &mut Vec<u8>, number: u32) -> Result<(), AllocError>
     ensures { λ r. ⌜ Appends r (vec-items (now (out .entry))) (32 ∷ decimal number) (vec-items (now (out .exit))) ⌝ }
 {
     append(out, b" ")?;
