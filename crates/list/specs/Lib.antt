@@ -1,2 +1,4 @@
 pub mod Appended
 pub mod Written
+pub mod Place
+pub mod Bounded

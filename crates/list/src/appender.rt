@@ -21,6 +21,15 @@ impl<'a, T: Copy> Appender<'a, T> {
         Appender { places, count: 0 }
     }
 
+    // A list over places of which the first `count` are filled.
+    pub fn resume(places: &'a mut [T], count: usize) -> Appender<'a, T>
+        ensures count { λ r. ⌜ r .count ≡ count ⌝ }
+        ensures places { λ r. ⌜ now (r .places) ≡ now (places .entry) ⌝ }
+        ensures lender { λ r. ⌜ name (r .places) ≡ name (places .entry) ⌝ }
+    {
+        Appender { places, count }
+    }
+
     // How many were pushed and found a place.
     pub fn count(&self) -> usize
         ensures { λ r. ⌜ r ≡ now (self .entry) .count ⌝ }

@@ -1,0 +1,26 @@
+-- The first place of a list whose element passes a test: one step of the search, and what its answer says.
+use Prim.Native.Nat.{ℕ, _+_, _<_, _≤_}
+use mathlib.Core.Path.{_≡_, sym, ap, _∙_}
+use mathlib.Core.Bool.{Bool, true, false, cond}
+use mathlib.Core.List.{List}
+use lib.ListN.{length, getD, drop}
+use Rattle.std.specs.declared.option.Option.{Option}
+use Rattle.std.specs.declared.option.Option.the-variants.{Some, None}
+use Rattle.std.proofs.shelf.Lists.{at-drop-more, at-drop-all}
+use Rattle.list.specs.Place.{place-from}
+
+module _ {A : Type 0} (p : A → Bool) (xs : List A) (i : ℕ) where
+  -- the element at i decides
+  step : (x : A) (b : Bool) → i < length xs → x ≡ getD xs i x → p x ≡ b → place-from p i (drop i xs) ≡ cond b (Some i) (place-from p (i + 1) (drop (i + 1) xs))
+  step x b h r t =
+      at-drop-more (place-from p i) xs i x h
+      ∙ ap (λ (c : Bool). cond c (Some i) (place-from p (i + 1) (drop (i + 1) xs))) (ap p (sym r) ∙ t)
+
+  pub place-hit : (x : A) → i < length xs → x ≡ getD xs i x → p x ≡ true → place-from p i (drop i xs) ≡ Some i
+  place-hit x h r t = step x true h r t
+
+  pub place-miss : (x : A) → i < length xs → x ≡ getD xs i x → p x ≡ false → place-from p i (drop i xs) ≡ place-from p (i + 1) (drop (i + 1) xs)
+  place-miss x h r f = step x false h r f
+
+  pub place-end : length xs ≤ i → place-from p i (drop i xs) ≡ None
+  place-end h = at-drop-all (place-from p i) xs i h
