@@ -3,8 +3,8 @@ ghost use mathlib.Core.Path.{_≡_};
 ghost use mathlib.Core.Bool.{Bool};
 ghost use Prim.Native.Nat.{_<_};
 ghost use lib.ListN.{length};
-ghost use Rattle.std.specs.Options.{Cases};
-ghost use Rattle.list.specs.Place.{place};
+ghost use Rattle.std.specs.Options.{Cases, isSome};
+ghost use Rattle.list.specs.Place.{place, any};
 
 // A record that may bear a key.
 pub trait Keyed<K> {
@@ -18,6 +18,7 @@ pub trait Keyed<K> {
 fn first_bearer<K, R: Keyed<K>>(records: &[R], key: &K) -> Option<usize>
     ensures first { λ r. ⌜ r ≡ place (bearer (now (key .entry))) (now (records .entry)) ⌝ }
     ensures within { λ r. ⌜ Cases r (Unit {0}) (λ i. i < length (now (records .entry))) ⌝ }
+    ensures found { λ r. ⌜ isSome r ≡ any (bearer (now (key .entry))) (now (records .entry)) ⌝ }
 {
     for (i, record) in records.iter().enumerate() {
         if record.bears(key) {
@@ -31,6 +32,7 @@ fn first_bearer<K, R: Keyed<K>>(records: &[R], key: &K) -> Option<usize>
 pub fn find<K, R: Keyed<K>>(records: &[R], key: &K) -> Option<usize>
     ensures first { λ r. ⌜ r ≡ place (bearer (now (key .entry))) (now (records .entry)) ⌝ }
     ensures within { λ r. ⌜ Cases r (Unit {0}) (λ i. i < length (now (records .entry))) ⌝ }
+    ensures found { λ r. ⌜ isSome r ≡ any (bearer (now (key .entry))) (now (records .entry)) ⌝ }
 {
     first_bearer(records, key)
 }

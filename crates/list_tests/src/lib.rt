@@ -3,4 +3,3 @@ mod records;
 #[cfg(test)]
 mod tests;
 mod texts;
-

@@ -1,3 +1,2 @@
 pub mod Showings
 pub mod Readings
-pub mod Composing

@@ -1,3 +1,2 @@
 pub mod Showing
-pub mod Composer
 pub mod Readback

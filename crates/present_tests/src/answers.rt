@@ -1,11 +1,11 @@
 // What presenters answer, case by case.
+use composer::Composer;
+use composer::ComposerPresenter;
+use composer::compose;
 use model::Element;
 use model::Fault;
 use model::Size;
-use present::Composer;
-use present::ComposerPresenter;
 use present::Presenter;
-use present::compose;
 use std::test::*;
 
 const GOOD: Element = Element {

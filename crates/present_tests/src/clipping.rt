@@ -1,7 +1,7 @@
 // One element of 2 x 2 pixels on an output of 3 x 3, over every side and corner and far outside.
+use composer::compose;
 use model::Element;
 use model::Size;
-use present::compose;
 use std::test::*;
 
 const K: u32 = 0xff00_0000;

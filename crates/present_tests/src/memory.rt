@@ -1,12 +1,12 @@
 // What the frame memory holds, and what is read back.
+use composer::Composer;
+use composer::ComposerPresenter;
+use composer::ComposerReadback;
+use composer::compose;
 use model::Element;
 use model::Size;
-use present::Composer;
-use present::ComposerPresenter;
-use present::ComposerReadback;
 use present::Presenter;
 use present::Readback;
-use present::compose;
 use present::first_frame;
 use present::read_glass;
 use std::test::*;

@@ -23,22 +23,3 @@ fn fields(answer: &Result<(), Fault>) -> [u32; 3]
         Err(fault) => [fault.number, fault.station, fault.word],
     }
 }
-
-#[cfg(test)]
-mod tests {
-    use super::*;
-    use std::test::*;
-
-    #[test]
-    fn refusal_and_acceptance(rt: LibcRuntime) -> Result<(), Fail> {
-        let mut out = Vec::new(rt.alloc());
-        let fault = Fault {
-            number: 18,
-            station: 9,
-            word: 4_294_967_295,
-        };
-        write_answer(&mut out, &Err(fault))?;
-        write_answer(&mut out, &Ok(()))?;
-        check_eq(out.as_slice(), b"answer 18 9 4294967295\nanswer 0 0 0\n")
-    }
-}

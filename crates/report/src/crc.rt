@@ -46,20 +46,3 @@ fn shift(crc: u32) -> u32
         crc >> 1
     }
 }
-
-#[cfg(test)]
-mod tests {
-    use super::*;
-    use std::test::*;
-
-    #[test]
-    fn eight_bytes() -> Result<(), Fail> {
-        // The bytes of the text "12345678".
-        check_eq(crc32(&[0x3433_3231, 0x3837_3635]), 0x9ae0_daaf)
-    }
-
-    #[test]
-    fn no_pixel() -> Result<(), Fail> {
-        check_eq(crc32(&[]), 0)
-    }
-}

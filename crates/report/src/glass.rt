@@ -40,31 +40,3 @@ fn separator(width: usize, count: usize, n: usize) -> u8
         b' '
     }
 }
-
-#[cfg(test)]
-mod tests {
-    use super::*;
-    use std::test::*;
-
-    #[test]
-    fn line_of_the_crc(rt: LibcRuntime) -> Result<(), Fail> {
-        let mut out = Vec::new(rt.alloc());
-        write_glass(&mut out, &[0x3433_3231, 0x3837_3635])?;
-        check_eq(out.as_slice(), b"glass 9ae0daaf\n")
-    }
-
-    #[test]
-    fn two_rows(rt: LibcRuntime) -> Result<(), Fail> {
-        let mut out = Vec::new(rt.alloc());
-        write_rows(&mut out, &[0xff00_0000, 1, 0x0123_4567, 0x89ab_cdef], 2)?;
-        check_eq(out.as_slice(), b"ff000000 00000001\n01234567 89abcdef\n")
-    }
-
-    #[test]
-    fn short_last_row_and_no_width(rt: LibcRuntime) -> Result<(), Fail> {
-        let mut out = Vec::new(rt.alloc());
-        write_rows(&mut out, &[1, 2, 3], 2)?;
-        write_rows(&mut out, &[1, 2, 3], 0)?;
-        check_eq(out.as_slice(), b"00000001 00000002\n00000003\n")
-    }
-}

@@ -45,20 +45,3 @@ fn channels(pixel: u32) -> [u8; 3]
     let [blue, green, red, _] = pixel.to_le_bytes();
     [red, green, blue]
 }
-
-#[cfg(test)]
-mod tests {
-    use super::*;
-    use std::test::*;
-
-    #[test]
-    fn one_by_two(rt: LibcRuntime) -> Result<(), Fail> {
-        let mut out = Vec::new(rt.alloc());
-        let size = Size {
-            width: 1,
-            height: 2,
-        };
-        write_ppm(&mut out, size, &[0xff41_4243, 0x0061_6263])?;
-        check_eq(out.as_slice(), b"P6\n1 2\n255\nABCabc")
-    }
-}

@@ -10,7 +10,7 @@ use Rattle.model.specs.Output.{accepted, on-answer, show-answer, then}
 use Rattle.model.specs.Scene.{picture}
 use Rattle.raster.specs.Frame.{has-sides, frame-length, extent}
 use Rattle.raster.specs.Raster.{raster}
-use Rattle.present.specs.Composer.{composer-size}
+use Rattle.composer.specs.Composer.{composer-size}
 use Rattle.draw.proofs.Sides.{accepted-sides, on-length, extent-length}
 use Rattle.draw.proofs.output.show_scene.Needs as need
 

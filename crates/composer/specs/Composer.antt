@@ -10,10 +10,10 @@ use Rattle.model.specs.declared.element.Element.{Element}
 use Rattle.model.specs.declared.size.Size.{Size}
 use Rattle.model.specs.Output.{Answer, accepted, output-fault, on-answer, show-answer, showable, then}
 use Rattle.model.specs.Scene.{picture}
-use Rattle.present.specs.declared.composer.Composer.{Composer}
+use Rattle.composer.specs.declared.composer.Composer.{Composer}
 use Rattle.raster.specs.Frame.{fits, extent, blackened, painted}
 use Rattle.raster.specs.Raster.{at, raster}
 use Rattle.present.specs.Showing.{Glass, Act, switched-off, switched-on, showed}
 
 abbrev pub composer-size : Composer → Size
 composer-size c = extent (c .width) (c .height) (length (now (c .frame)))

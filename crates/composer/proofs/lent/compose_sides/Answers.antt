@@ -4,10 +4,10 @@ use borrow.Author.Needs.{needs}
 use lib.ListN.{length}
 use denote.Ref.{now}
 use Rattle.model.specs.Output.{show-answer, then}
-use Rattle.present.specs.Composer.{composed}
-use Rattle.present.proofs.Composing.{composed-frame}
+use Rattle.composer.specs.Composer.{composed}
+use Rattle.composer.proofs.Composing.{composed-frame}
 use Rattle.raster.proofs.Frames.{on-fits}
-use Rattle.present.proofs.lent.compose_sides.Needs as need
+use Rattle.composer.proofs.lent.compose_sides.Needs as need
 
 pub returns : need.returns
 returns c =

@@ -6,8 +6,8 @@ use Rattle.model.specs.Output.{accepted, show-answer}
 use Rattle.raster.specs.Frame.{extent, painted}
 use Rattle.raster.specs.Raster.{at}
 use Rattle.raster.proofs.Frames.{at-painted}
 use Rattle.present.proofs.Showings.{show-sound, show-lit}
-use Rattle.present.proofs.composer.Composer.show_scene.Needs as need
+use Rattle.composer.proofs.composer.Composer.show_scene.Needs as need
 
 pub returns : need.returns
 returns c =

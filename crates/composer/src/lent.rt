@@ -1,13 +1,13 @@
 // A scene drawn into a frame memory, from the memory's lender's side.
 ghost use mathlib.Core.Path.{_≡_};
 ghost use lib.ListN.{length};
-ghost use Rattle.present.specs.Composer.{compose-answer, composed};
+ghost use Rattle.composer.specs.Composer.{compose-answer, composed};
 use super::composer::Composer;
 use super::composer::ComposerPresenter;
-use super::first::first_frame;
 use model::Element;
 use model::Fault;
 use model::Size;
+use present::first_frame;
 
 // Lights a composer over a frame memory, shows a scene on it and lets it go.
 fn compose_sides(

@@ -2,11 +2,11 @@ use mathlib.Core.Path.{_≡_, refl, sym, ap, _∙_}
 use mathlib.Core.Bool.{true, _&&_, not}
 use Rattle.std.proofs.shelf.Tests.{cond-true, and-from, not-from-false, or-left}
 use Rattle.model.specs.Output.{accepted, on-answer}
-use Rattle.present.specs.Composer.{composer-size}
+use Rattle.composer.specs.Composer.{composer-size}
 use Rattle.raster.specs.Frame.{extent, blackened}
 use Rattle.raster.specs.Raster.{at}
 use Rattle.raster.proofs.Frames.{at-blackened}
-use Rattle.present.proofs.composer.Composer.light.Needs as need
+use Rattle.composer.proofs.composer.Composer.light.Needs as need
 
 pub returns : need.returns
 returns c =

@@ -13,11 +13,11 @@ use Rattle.model.specs.declared.element.Element.{Element}
 use Rattle.model.specs.Buffer.{all-sound}
 use Rattle.model.specs.Output.{accepted, output-fault, on-answer, show-answer, showable, most-elements}
 use Rattle.model.specs.Scene.{picture}
-use Rattle.present.specs.declared.composer.Composer.{Composer}
-use Rattle.present.specs.Composer.{composer-size, lights, frame-after, Composer-left, composed}
+use Rattle.composer.specs.declared.composer.Composer.{Composer}
+use Rattle.composer.specs.Composer.{composer-size, lights, frame-after, Composer-left, composed}
 use Rattle.raster.specs.Frame.{fits, blackened, painted}
 use Rattle.raster.specs.Raster.{raster}
 use Rattle.present.specs.Showing.{switched-on, showed, Lit-and-shown}
 use Rattle.raster.proofs.Frames.{on-fits, length-blackened}
 
 -- a lit output accepts just what can be shown

@@ -1,0 +1,3 @@
+// Tests of reports by examples, in a crate of their own since each is proved too.
+#[cfg(test)]
+mod tests;
