@@ -18,7 +18,7 @@ use Rattle.model.specs.declared.request.Request.{Request}
 use Rattle.model.specs.declared.request.Request.the-variants.{CreateSurface, GetSubsurface, SurfaceDestroy, Attach, Damage, Frame, Commit, SubsurfaceDestroy, SetPosition, PlaceAbove, PlaceBelow, SetSync, SetDesync, BufferDestroy}
 use Rattle.model.specs.Word.{int-word}
 use Rattle.model.specs.Request.{exactly, fitting, id-at, int-at, compositor-request, subcompositor-request, surface-request, subsurface-request, buffer-request, request-of}
-use Rattle.model.specs.Asked.{Numbers, numbered, numbers, in-numbers, asked}
+use Rattle.model.specs.Asked.{NumberedRequest, numbered, numbers, in-numbers, asked}
 use Rattle.model.proofs.Words.{int-word-int}
 
 module _ (args : List ℕ) where
@@ -27,7 +27,7 @@ module _ (args : List ℕ) where
   written-out n long = sym (fill-by-all (λ k. getD args k 0) args n 0 long (λ k h. refl))
 
   -- one entry of an interface's opcodes, and those that follow it
-  entry : (o k n : ℕ) (i : Interface) (r : Request) (rest : Result Request Fault) (rest′ : Result Numbers Fault) → (length args ≡ n → numbers r ≡ numbered i k args) → in-numbers rest ≡ rest′ → in-numbers (cond (eqb o k) (fitting (exactly n args) r) rest) ≡ cond (eqb o k) (fitting (exactly n args) (numbered i o args)) rest′
+  entry : (o k n : ℕ) (i : Interface) (r : Request) (rest : Result Request Fault) (rest′ : Result NumberedRequest Fault) → (length args ≡ n → numbers r ≡ numbered i k args) → in-numbers rest ≡ rest′ → in-numbers (cond (eqb o k) (fitting (exactly n args) r) rest) ≡ cond (eqb o k) (fitting (exactly n args) (numbered i o args)) rest′
   entry o k n i r rest rest′ same after =
       ⊎-elim
       (λ (t : eqb o k ≡ true).

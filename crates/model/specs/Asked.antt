@@ -14,15 +14,15 @@ use Rattle.model.specs.Word.{int-word}
 use Rattle.model.specs.Request.{exactly, fitting, unlisted}
 
 -- a request in numbers: the interface that lists it, its opcode there, and its arguments as words
-pub record Numbers : Type 0 where
+pub record NumberedRequest : Type 0 where
   pub interface : Interface
   pub opcode : ℕ
   pub arguments : List ℕ
 
-abbrev pub numbered : Interface → ℕ → List ℕ → Numbers
+abbrev pub numbered : Interface → ℕ → List ℕ → NumberedRequest
 numbered i o args = record { interface = i; opcode = o; arguments = args }
 
-abbrev pub numbers : Request → Numbers
+abbrev pub numbers : Request → NumberedRequest
 numbers (CreateSurface n) = numbered Compositor 0 (n ∷ [])
 numbers (GetSubsurface n s p) = numbered Subcompositor 1 (n ∷ s ∷ p ∷ [])
 numbers SurfaceDestroy = numbered Surface 0 []
@@ -38,7 +38,7 @@ numbers SetSync = numbered Subsurface 4 []
 numbers SetDesync = numbered Subsurface 5 []
 numbers BufferDestroy = numbered Buffer 0 []
 
-abbrev pub in-numbers : Result Request Fault → Result Numbers Fault
+abbrev pub in-numbers : Result Request Fault → Result NumberedRequest Fault
 in-numbers (Ok r) = Ok (numbers r)
 in-numbers (Err f) = Err f
 
@@ -54,11 +54,11 @@ opcodes Buffer = (0, exactly 0) ∷ []
 opcodes Callback = []
 
 -- the answer to an opcode and its arguments, by a list of opcodes
-abbrev pub listed : List (ℕ × (List ℕ → Bool)) → Numbers → Result Numbers Fault
+abbrev pub listed : List (ℕ × (List ℕ → Bool)) → NumberedRequest → Result NumberedRequest Fault
 listed [] n = unlisted
 listed (entry ∷ entries) n =
     cond (eqb (n .opcode) (entry .0)) (fitting (entry .1 (n .arguments)) n) (listed entries n)
 
 -- what was asked, in numbers
-abbrev pub asked : Interface → ℕ → List ℕ → Result Numbers Fault
+abbrev pub asked : Interface → ℕ → List ℕ → Result NumberedRequest Fault
 asked i o args = listed (opcodes i) (numbered i o args)

@@ -14,12 +14,12 @@ use Rattle.model.specs.Fault.{fault}
 use Rattle.model.specs.Word.{word}
 
 -- the object is the first word; of the second, the upper half is the size in bytes, and the lower half is the opcode
-abbrev pub header : List ℕ → Header
-header bytes = record { object = word bytes 0; size = word bytes 1 / 0x1_0000; opcode = word bytes 1 % 0x1_0000 }
+abbrev pub header-words : List ℕ → Header
+header-words bytes = record { object = word bytes 0; size = word bytes 1 / 0x1_0000; opcode = word bytes 1 % 0x1_0000 }
 
 -- the header of a message that has one: under eight bytes have none
 abbrev pub header-of : List ℕ → Option Header
-header-of bytes = cond (ltb (length bytes) 8) None (Some (header bytes))
+header-of bytes = cond (ltb (length bytes) 8) None (Some (header-words bytes))
 
 -- what follows the header
 abbrev pub body-of : List ℕ → List ℕ

@@ -9,14 +9,14 @@ use model::Fault;
 use model::Interface;
 use model::Request;
 
-// The interface does not list the opcode.
+// The interface lists no such opcode.
 const UNLISTED: Fault = Fault {
     number: 6,
     station: 3,
     word: 1,
 };
 
-// What is asked of an object with that interface.
+// What is asked of an object with that interface, as a request and in numbers.
 pub(crate) fn decode_request(
     interface: Interface,
     opcode: u16,
@@ -25,10 +25,11 @@ pub(crate) fn decode_request(
     ensures value { λ r. ⌜ r ≡ request-of interface opcode (words (now (body .entry))) ⌝ }
     ensures numbers { λ r. ⌜ in-numbers r ≡ asked interface opcode (words (now (body .entry))) ⌝ }
 {
-    any_request(interface, opcode, body)
+    request_for(interface, opcode, body)
 }
 
-fn any_request(interface: Interface, opcode: u16, body: &[u8]) -> Result<Request, Fault>
+// As a request alone: that it is the same in numbers is shown once, above.
+fn request_for(interface: Interface, opcode: u16, body: &[u8]) -> Result<Request, Fault>
     ensures { λ r. ⌜ r ≡ request-of interface opcode (words (now (body .entry))) ⌝ }
 {
     match (interface, opcode) {

@@ -7,6 +7,13 @@ use super::checked::CheckedMessage;
 use model::Fault;
 use model::Header;
 
+// There is no header, or it says another size.
+const BAD_HEADER: Fault = Fault {
+    number: 4,
+    station: 3,
+    word: 0,
+};
+
 // Borrows its bytes until it is carried out or let go. No copy can be made, so it is carried out once.
 #[derive(Drop)]
 pub struct Message<'m> {
@@ -59,14 +66,11 @@ fn split_header(bytes: &[u8]) -> (Option<Header>, &[u8])
 fn check_header(header: Option<Header>, body: &[u8]) -> Result<Header, Fault>
     ensures { λ r. ⌜ r ≡ header-answer header (now (body .entry)) ⌝ }
 {
-    match header {
-        Some(header) if header.size as usize == body.len() + 8 && header.size % 4 == 0 => Ok(
-            header,
-        ),
-        _ => Err(Fault {
-            number: 4,
-            station: 3,
-            word: 0,
-        }),
+    let Some(header) = header else {
+        return Err(BAD_HEADER);
+    };
+    if header.size as usize != body.len() + 8 || header.size % 4 != 0 {
+        return Err(BAD_HEADER);
     }
+    Ok(header)
 }

@@ -7,6 +7,13 @@ ghost use Rattle.model.specs.Request.{exactly, fitting};
 ghost use Rattle.model.specs.Word.{word, words, int};
 use model::Fault;
 
+// The arguments are not as many as the request takes.
+const BAD_ARGUMENTS: Fault = Fault {
+    number: 7,
+    station: 3,
+    word: 1,
+};
+
 // The signed number that a word stands for.
 pub(crate) fn to_int(word: u32) -> i32
     ensures { λ r. ⌜ r ≡ int word ⌝ }
@@ -39,11 +46,7 @@ pub(crate) fn arguments<const N: usize>(body: &[u8]) -> Result<[u32; N], Fault>
     ensures { λ r. ⌜ r ≡ fitting (exactly N (words (now (body .entry)))) (words (now (body .entry))) ⌝ }
 {
     if body.len() / 4 != N {
-        return Err(Fault {
-            number: 7,
-            station: 3,
-            word: 1,
-        });
+        return Err(BAD_ARGUMENTS);
     }
     let mut words = [0; N];
     for (i, word) in words.iter_mut().enumerate() {

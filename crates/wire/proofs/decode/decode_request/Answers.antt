@@ -9,6 +9,6 @@ pub returns : need.returns
 returns c =
     let below = words-below (c .args .body .now) (λ i. c .typed .body i .fits) in
     record {
-      value = c .any-request .ensures;
-      numbers = ap in-numbers (c .any-request .ensures) ∙ request-asked (words (c .args .body .now)) below (c .args .interface) (c .args .opcode);
+      value = c .request-for .ensures;
+      numbers = ap in-numbers (c .request-for .ensures) ∙ request-asked (words (c .args .body .now)) below (c .args .interface) (c .args .opcode);
     }
