@@ -1,4 +1,9 @@
+pub mod Fault
 pub mod Pixel
 pub mod Scene
 pub mod Buffer
 pub mod Output
+pub mod Word
+pub mod Message
+pub mod Request
+pub mod Asked

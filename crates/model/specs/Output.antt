@@ -10,6 +10,7 @@ use Rattle.model.specs.declared.element.Element.{Element}
 use Rattle.model.specs.declared.fault.Fault.{Fault}
 use Rattle.model.specs.declared.size.Size.{Size}
 use Rattle.model.specs.Buffer.{longest, all-sound}
+use Rattle.model.specs.Fault.{fault}
 
 abbrev pub Answer : Type 0
 Answer = Result (Unit {0}) Fault
@@ -20,7 +21,7 @@ accepted (Err _) = false
 
 -- a refusal by the output, which is checked last, at station 9, and names no word
 abbrev pub output-fault : ℕ → Answer
-output-fault n = Err (record { number = n; station = 9; word = 0 })
+output-fault n = Err (fault n 9 0)
 
 -- most elements in a scene
 abbrev pub most-elements : ℕ
