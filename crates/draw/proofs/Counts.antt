@@ -3,9 +3,9 @@ use Prim.Native.Nat.{_≤_}
 use mathlib.Core.List.{List, [], _∷_}
 use native.Mathlib.Omega.{arith}
 use lib.ListN.{length}
-use Rattle.recording.specs.declared.scene.Item.{Item}
-use Rattle.recording.specs.declared.scene.Item.the-variants.{Fill, Element}
-use Rattle.recording.specs.Items.{elements}
+use Rattle.scene.specs.declared.content.Item.{Item}
+use Rattle.scene.specs.declared.content.Item.the-variants.{Fill, Element}
+use Rattle.scene.specs.Items.{elements}
 
 pub few-elements : (items : List Item) → length (elements items) ≤ length items
 few-elements [] = omega arith

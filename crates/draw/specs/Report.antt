@@ -11,9 +11,9 @@ use Rattle.model.specs.Output.{Answer, accepted, output-fault, show-answer, the
 use Rattle.model.specs.Scene.{picture}
 use Rattle.raster.specs.Frame.{has-sides}
 use Rattle.raster.specs.Raster.{raster}
-use Rattle.recording.specs.declared.scene.Console.{Console}
-use Rattle.recording.specs.declared.scene.Item.{Item}
-use Rattle.recording.specs.Items.{filled-all, elements}
+use Rattle.scene.specs.declared.content.Console.{Console}
+use Rattle.scene.specs.declared.content.Item.{Item}
+use Rattle.scene.specs.Items.{filled-all, elements}
 use Rattle.report.specs.Report.{answer-line, glass-line, row-lines}
 use Rattle.draw.specs.declared.output.Report.{Report}
 

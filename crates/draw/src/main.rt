@@ -10,14 +10,14 @@ use options::Options;
 use options::read_options;
 use output::Report;
 use output::report_scene;
-use recording::Console;
-use recording::parse_scene;
-use recording::problem::BadLineDisplay;
 use report::write_ppm;
+use scene::Console;
+use scene::parse_scene;
 use std::env;
 use std::fs;
 use std::io::Read;
 use std::io::Write;
+use text::problem::BadLineDisplay;
 
 // What is wrong has been printed.
 #[derive(Drop)]

@@ -1,52 +1,30 @@
--- What is said of a bad line.
-use Prim.Native.Nat.{ℕ}
-use mathlib.Core.List.{List, [], _++_}
-use lib.Chars.{codes}
-use Rattle.std.specs.Written.{decimal}
-use Rattle.recording.specs.declared.problem.Argument.{Argument}
-use Rattle.recording.specs.declared.problem.Argument.the-variants.{X, Y, First, Width, Height, Stride, Format, Pixels}
-use Rattle.recording.specs.declared.problem.BadLine.{BadLine}
-use Rattle.recording.specs.declared.problem.Problem.{Problem}
-use Rattle.recording.specs.declared.problem.Problem.the-variants.{NoConsole, ConsoleForm, SecondConsole, UnknownLine, Missing, NotUnsigned, NotSigned, PixelForm, PixelsPastEnd, WordTooMany, NoMemory}
+-- The bytes of a message, as words of hex digits.
+use Prim.Native.Nat.{ℕ, _+_, _*_}
+use mathlib.Core.Bool.{cond, _&&_}
+use mathlib.Core.List.{List, [], _∷_, _++_}
+use lib.Dec.{ltb}
+use Rattle.std.specs.declared.result.Result.{Result}
+use Rattle.std.specs.declared.result.Result.the-variants.{Ok, Err}
+use Rattle.text.specs.declared.problem.Problem.{Problem}
+use Rattle.text.specs.declared.problem.Problem.the-variants.{MessageForm}
+use Rattle.text.specs.Argument.{and-then}
+use Rattle.text.specs.Number.{digit}
 
-abbrev pub argument-name : Argument → List ℕ
-argument-name X = codes "X"
-argument-name Y = codes "Y"
-argument-name First = codes "FIRST"
-argument-name Width = codes "WIDTH"
-argument-name Height = codes "HEIGHT"
-argument-name Stride = codes "STRIDE"
-argument-name Format = codes "FORMAT"
-argument-name Pixels = codes "PIXELS"
+-- the byte that two digits make
+abbrev pub byte-of : ℕ → ℕ → Result ℕ Problem
+byte-of high low = cond (ltb high 16 && ltb low 16) (Ok (high * 16 + low)) (Err MessageForm)
 
--- the argument that a message begins with, if there is one
-abbrev pub problem-subject : Problem → List ℕ
-problem-subject NoConsole = []
-problem-subject ConsoleForm = []
-problem-subject SecondConsole = []
-problem-subject UnknownLine = []
-problem-subject (Missing name) = argument-name name
-problem-subject (NotUnsigned name) = argument-name name
-problem-subject (NotSigned name) = argument-name name
-problem-subject PixelForm = []
-problem-subject PixelsPastEnd = []
-problem-subject WordTooMany = []
-problem-subject NoMemory = []
+-- two hex digits
+unfoldable pub hex-byte : ℕ → ℕ → Result ℕ Problem
+hex-byte high low = byte-of (digit high) (digit low)
 
--- the message after its subject
-abbrev pub problem-text : Problem → List ℕ
-problem-text NoConsole = codes "the file has no console line"
-problem-text ConsoleForm = codes "the first line must be: console WIDTH HEIGHT composer PIXELS"
-problem-text SecondConsole = codes "a second console line"
-problem-text UnknownLine = codes "unknown word at the start of the line"
-problem-text (Missing name) = codes " is missing"
-problem-text (NotUnsigned name) = codes " is not a number from 0 to 4294967295"
-problem-text (NotSigned name) = codes " is not a number from -2147483648 to 2147483647"
-problem-text PixelForm = codes "a pixel is eight hex digits, or N*PIXEL"
-problem-text PixelsPastEnd = codes "the pixels do not fit the pixel memory"
-problem-text WordTooMany = codes "a word too many"
-problem-text NoMemory = codes "out of memory"
+-- the bytes so far, and then those of a word
+abbrev pub hex-bytes : List ℕ → List ℕ → Result (List ℕ) Problem
+hex-bytes so-far [] = Ok so-far
+hex-bytes so-far (high ∷ []) = Err MessageForm
+hex-bytes so-far (high ∷ (low ∷ word)) = and-then (hex-byte high low) λ byte. hex-bytes (so-far ++ byte ∷ []) word
 
-abbrev pub bad-line-text : BadLine → List ℕ
-bad-line-text bad =
-    codes "line " ++ (decimal (bad .line) ++ (codes ": " ++ (problem-subject (bad .problem) ++ problem-text (bad .problem))))
+-- the bytes so far, and then those of the words
+abbrev pub message-bytes : List ℕ → List (List ℕ) → Result (List ℕ) Problem
+message-bytes so-far [] = Ok so-far
+message-bytes so-far (word ∷ ws) = and-then (hex-bytes so-far word) λ more. message-bytes more ws

@@ -1,22 +1,16 @@
-// The files that say what a composer is given to show.
-mod argument;
-mod items;
-mod lines;
-mod number;
+// Recordings: the calls that a console was given, one a line.
+mod call_line;
+mod choice;
+pub mod content;
+mod keyword;
+mod line;
+mod message;
+mod paint;
 mod parse;
-mod pixel;
-pub mod problem;
-mod run;
-pub mod scene;
-mod scene_line;
-mod words;
 
-pub use items::collect_elements;
-pub use items::fill_memory;
-pub use parse::parse_scene;
-pub use problem::Argument;
-pub use problem::BadLine;
-pub use problem::Problem;
-pub use scene::Console;
-pub use scene::Item;
-pub use scene::SceneFile;
+pub use content::Call;
+pub use content::Console;
+pub use content::Entry;
+pub use content::PresenterKind;
+pub use content::Recording;
+pub use parse::parse_recording;

@@ -1,101 +1,101 @@
-// A scene file's text as values.
+// A recording's text as values.
 ghost use mathlib.Core.Path.{_≡_};
-ghost use Prim.Native.Nat.{_+_, _^_, _<_, _≤_};
+ghost use mathlib.Core.List.{[], _∷_, _++_};
+ghost use Prim.Native.Nat.{_+_, _^_, _<_};
 ghost use lib.ListN.{length};
-ghost use Rattle.std.specs.declared.result.Result.the-variants.{Ok, Err};
+ghost use Rattle.std.specs.declared.result.Result.the-variants.{Ok};
 ghost use Rattle.std.specs.Of.Vec.{vec-items};
 ghost use Rattle.std.specs.Results.{Cases};
-ghost use Rattle.std.specs.Vec.{made};
-ghost use Rattle.recording.specs.Lines.{lines};
-ghost use Rattle.recording.specs.Scene.{console-line, item-line, console-after, items-after, scene-of};
-ghost use Rattle.recording.specs.Told.{Wrong, Wrong-line};
-ghost use Rattle.recording.specs.Words.{words};
-use super::lines::Lines;
-use super::problem::BadLine;
-use super::problem::Problem;
-use super::scene::Console;
-use super::scene::Item;
-use super::scene::SceneFile;
-use super::scene_line::console_sides;
-use super::scene_line::element_line;
-use super::scene_line::pixels_line;
-use super::scene_line::push_item;
-use super::words::Words;
-use super::words::is_text;
+ghost use Rattle.text.specs.declared.problem.Problem.the-variants.{NoMemory};
+ghost use Rattle.text.specs.First.{on-line};
+ghost use Rattle.text.specs.Lines.{lines};
+ghost use Rattle.text.specs.Told.{Wrong, Wrong-line};
+ghost use Rattle.text.specs.Words.{words};
+ghost use Rattle.recording.specs.CallLine.{console-line};
+ghost use Rattle.recording.specs.Content.{plain-entries};
+ghost use Rattle.recording.specs.Line.{plain-line};
+ghost use Rattle.recording.specs.Recording.{places-after, entries-with, after-line, entries-after, recording-of};
+use super::call_line::console_line;
+use super::content::Console;
+use super::content::Entry;
+use super::content::Recording;
+use super::line::Line;
+use super::line::read_line;
 use std::alloc::Global;
+use text::BadLine;
+use text::Lines;
+use text::Problem;
+use text::Words;
+use text::first_line;
 
-// A line until the console is found.
-fn console_line(line: &[u8]) -> Result<Option<Console>, Problem>
-    ensures { λ r. ⌜ r ≡ console-line (words (now (line .entry))) ⌝ }
-{
-    let mut rest = Words { rest: line };
-    let Some(word) = rest.next() else {
-        return Ok(None);
-    };
-    if !is_text(word, b"console") {
-        return Err(Problem::ConsoleForm);
-    }
-    let console = console_sides(&mut rest)?;
-    Ok(Some(console))
-}
+// How many places an event list has before the first `events` line.
+const FIRST_PLACES: u32 = 160;
 
-// A line after the console's.
-fn item_line(line: &[u8], memory: u32, items: &mut Vec<Item>) -> Result<(), Problem>
-    ensures { λ r. ⌜ Cases r (λ _. item-line memory (vec-items (now (items .entry))) (words (now (line .entry))) ≡ Ok (vec-items (now (items .exit)))) (λ e. Wrong e (item-line memory (vec-items (now (items .entry))) (words (now (line .entry))))) ⌝ }
+fn push_entry(entries: &mut Vec<Entry>, entry: Entry) -> Result<(), Problem>
+    ensures { λ r. ⌜ Cases r (λ _. vec-items (now (entries .exit)) ≡ vec-items (now (entries .entry)) ++ entry ∷ []) (λ e. e ≡ NoMemory) ⌝ }
 {
-    let mut rest = Words { rest: line };
-    let Some(word) = rest.next() else {
-        return Ok(());
-    };
-    if is_text(word, b"pixels") {
-        pixels_line(&mut rest, memory, items)
-    } else if is_text(word, b"element") {
-        let element = element_line(&mut rest)?;
-        push_item(items, Item::Element(element))
-    } else if is_text(word, b"console") {
-        Err(Problem::SecondConsole)
-    } else {
-        Err(Problem::UnknownLine)
+    match entries.push(entry) {
+        Ok(()) => Ok(()),
+        Err(_) => Err(Problem::NoMemory),
     }
 }
 
-// The console, the number of its line and what follows that line.
-fn find_console(text: &[u8]) -> Result<(Console, usize, &[u8]), BadLine>
-    ensures value { λ r. ⌜ Cases r (λ found. console-after 0 (lines (now (text .entry))) ≡ Ok (found .0, found .1, lines (now (found .2)))) (λ bad. console-after 0 (lines (now (text .entry))) ≡ Err bad) ⌝ }
-    ensures bound { λ r. ⌜ made r (λ found. found .1 + length (now (found .2)) ≤ length (now (text .entry))) ⌝ }
+// The places of the event lists after a line, whose call goes to the entries.
+fn take_line(
+    said: Line,
+    number: usize,
+    places: u32,
+    entries: &mut Vec<Entry>,
+) -> Result<u32, Problem>
+    ensures { λ r. ⌜ Cases r (λ after. (after ≡ places-after (plain-line said) places) × (plain-entries (vec-items (now (entries .exit))) ≡ entries-with (plain-line said) number places (plain-entries (vec-items (now (entries .entry)))))) (λ e. e ≡ NoMemory) ⌝ }
 {
-    let mut lines = Lines { rest: text };
-    let mut number = 0;
-    while let Some(line) = lines.next() {
-        number += 1;
-        match console_line(line) {
-            Ok(Some(console)) => return Ok((console, number, lines.rest)),
-            Ok(None) => {}
-            Err(problem) => {
-                return Err(BadLine {
+    match said {
+        Line::Empty => Ok(places),
+        Line::Places(after) => Ok(after),
+        Line::Call(call) => {
+            push_entry(
+                entries,
+                Entry {
                     line: number,
-                    problem,
-                });
-            }
+                    places,
+                    call,
+                },
+            )?;
+            Ok(places)
         }
     }
-    Err(BadLine {
-        line: number.max(1),
-        problem: Problem::NoConsole,
-    })
 }
 
-// The items of a text that follows the first `before` lines of a file.
-fn read_items(text: &[u8], before: usize, memory: u32, items: &mut Vec<Item>) -> Result<(), BadLine>
+fn add_line(
+    heap: Global,
+    line: &[u8],
+    number: usize,
+    places: u32,
+    entries: &mut Vec<Entry>,
+) -> Result<u32, Problem>
+    ensures { λ r. ⌜ Cases r (λ after. after-line number places (plain-entries (vec-items (now (entries .entry)))) (words (now (line .entry))) ≡ Ok (after, plain-entries (vec-items (now (entries .exit))))) (λ e. Wrong e (after-line number places (plain-entries (vec-items (now (entries .entry)))) (words (now (line .entry))))) ⌝ }
+{
+    let said = read_line(heap, line)?;
+    take_line(said, number, places, entries)
+}
+
+// The entries of a text that follows the first `before` lines of a file.
+fn read_entries(
+    heap: Global,
+    text: &[u8],
+    before: usize,
+    entries: &mut Vec<Entry>,
+) -> Result<(), BadLine>
     requires { ⌜ before + length (now text) < 2 ^ 64 ⌝ }
-    ensures { λ r. ⌜ Cases r (λ _. items-after memory before (vec-items (now (items .entry))) (lines (now (text .entry))) ≡ Ok (vec-items (now (items .exit)))) (λ bad. Wrong-line bad (items-after memory before (vec-items (now (items .entry))) (lines (now (text .entry))))) ⌝ }
+    ensures { λ r. ⌜ Cases r (λ _. entries-after before 160 (plain-entries (vec-items (now (entries .entry)))) (lines (now (text .entry))) ≡ Ok (plain-entries (vec-items (now (entries .exit))))) (λ bad. Wrong-line bad (entries-after before 160 (plain-entries (vec-items (now (entries .entry)))) (lines (now (text .entry))))) ⌝ }
 {
     let mut lines = Lines { rest: text };
     let mut number = before;
+    let mut places = FIRST_PLACES;
     while let Some(line) = lines.next() {
         number += 1;
-        match item_line(line, memory, items) {
-            Ok(()) => {}
+        match add_line(heap, line, number, places, entries) {
+            Ok(after) => places = after,
             Err(problem) => {
                 return Err(BadLine {
                     line: number,
@@ -107,12 +107,31 @@ fn read_items(text: &[u8], before: usize, memory: u32, items: &mut Vec<Item>) ->
     Ok(())
 }
 
-// The scene of a file, or its first line that is wrong.
-pub fn parse_scene(heap: Global, text: &[u8]) -> Result<SceneFile, BadLine>
-    ensures { λ r. ⌜ Cases r (λ file. scene-of (now (text .entry)) ≡ Ok (file .console, vec-items (file .items))) (λ bad. Wrong-line bad (scene-of (now (text .entry)))) ⌝ }
+// The console that the line with that number describes.
+fn read_console(line: &[u8], number: usize) -> Result<Console, BadLine>
+    ensures { λ r. ⌜ r ≡ on-line number (console-line (words (now (line .entry)))) ⌝ }
 {
-    let (console, line, rest) = find_console(text)?;
-    let mut items = Vec::new(heap);
-    read_items(rest, line, console.pixels, &mut items)?;
-    Ok(SceneFile { console, items })
+    let mut words = Words { rest: line };
+    match console_line(&mut words) {
+        Ok(console) => Ok(console),
+        Err(problem) => Err(BadLine {
+            line: number,
+            problem,
+        }),
+    }
+}
+
+// The recording of a file, or its first line that is wrong.
+pub fn parse_recording(heap: Global, text: &[u8]) -> Result<Recording, BadLine>
+    ensures { λ r. ⌜ Cases r (λ file. recording-of (now (text .entry)) ≡ Ok (file .console, file .«console_line», plain-entries (vec-items (file .entries)))) (λ bad. Wrong-line bad (recording-of (now (text .entry)))) ⌝ }
+{
+    let (console_line, line, rest) = first_line(text)?;
+    let console = read_console(line, console_line)?;
+    let mut entries = Vec::new(heap);
+    read_entries(heap, rest, console_line, &mut entries)?;
+    Ok(Recording {
+        console,
+        console_line,
+        entries,
+    })
 }

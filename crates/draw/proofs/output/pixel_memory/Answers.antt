@@ -1,7 +1,7 @@
 use mathlib.Core.Path.{_≡_, ap, _∙_}
 use lib.ListN.{replicate}
 use Rattle.std.proofs.shelf.Lists.{refilled-is}
-use Rattle.recording.specs.Items.{filled-all}
+use Rattle.scene.specs.Items.{filled-all}
 use Rattle.draw.proofs.output.pixel_memory.Needs as need
 
 pub returns : need.returns

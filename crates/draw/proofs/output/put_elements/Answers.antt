@@ -5,7 +5,7 @@ use Prim.Native.Nat.{_≤_}
 use lib.ListN.{length}
 use denote.Ref.{now}
 use Rattle.list.proofs.Laws.{appended-all}
-use Rattle.recording.specs.Items.{elements}
+use Rattle.scene.specs.Items.{elements}
 use Rattle.draw.proofs.Counts.{few-elements}
 use Rattle.draw.proofs.output.put_elements.Needs as need
 

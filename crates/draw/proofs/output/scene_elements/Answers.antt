@@ -3,7 +3,7 @@ use mathlib.Core.Path.{_≡_, refl, sym, ap, _∙_}
 use native.Mathlib.Omega.{arith}
 use lib.ListN.{length, take, drop}
 use Rattle.std.proofs.shelf.Lists.{refilled-is, take-at}
-use Rattle.recording.specs.Items.{elements}
+use Rattle.scene.specs.Items.{elements}
 use Rattle.draw.proofs.output.scene_elements.Needs as need
 
 pub returns : need.returns

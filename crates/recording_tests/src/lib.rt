@@ -1,3 +1,0 @@
-// Tests of scene files.
-#[cfg(test)]
-mod tests;

@@ -1,0 +1,4 @@
+pub mod SceneLine
+pub mod Scene
+pub mod Items
+pub mod Fits

@@ -1,0 +1,9 @@
+pub mod Bytes
+pub mod Lines
+pub mod Words
+pub mod Number
+pub mod Pixel
+pub mod Argument
+pub mod First
+pub mod Told
+pub mod Message
