@@ -48,12 +48,7 @@ fn call_line(heap: Global, k: usize, call: &Call) -> Result<String, AllocError> 
 }
 
 // A request by its message: what its header says and its argument words, or why it cannot be read.
-fn request_line(
-    heap: Global,
-    k: usize,
-    client: u32,
-    message: &[u8],
-) -> Result<String, AllocError> {
+fn request_line(heap: Global, k: usize, client: u32, message: &[u8]) -> Result<String, AllocError> {
     match Message::read(message).check() {
         Ok(checked) => message_line(heap, k, client, &checked),
         Err(fault) => fault_line(heap, k, client, fault),

@@ -11,7 +11,7 @@ use recording::parse_recording;
 use std::env;
 use std::fs;
 use std::io::Write;
-use text::BadLineDisplay;
+use text::problem::BadLineDisplay;
 
 // What is wrong has been printed.
 #[derive(Drop)]
