@@ -2,8 +2,7 @@ use mathlib.Core.Path.{sym, ap, _∙_}
 use mathlib.Core.List.{[], _∷_}
 use Rattle.std.specs.Of.Vec.{vec-items}
 use Rattle.std.proofs.shelf.Lists.{map-append}
-use Rattle.recording.specs.Content.{plain-entry, plain-entries}
-use Rattle.recording.specs.Line.{plain-line}
+use Rattle.recording.specs.Content.{plain-entry, plain-entries, plain-line}
 use Rattle.recording.specs.Recording.{places-after, entries-with}
 use Rattle.recording.proofs.parse.take_line.Needs as need
 
