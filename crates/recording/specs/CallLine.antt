@@ -12,7 +12,7 @@ use Rattle.text.specs.Argument.{and-then, reading, unsigned-argument, signed-ar
 use Rattle.recording.specs.declared.content.Console.{Console}
 use Rattle.recording.specs.declared.content.PresenterKind.the-variants.{Composer, Scanout}
 use Rattle.recording.specs.Choice.{either-word}
-use Rattle.recording.specs.Content.{PlainCall, request, buffer, root, paint, switch, frame}
+use Rattle.recording.specs.Content.{PlainLine, places, call, request, buffer, root, paint, switch, frame}
 use Rattle.recording.specs.Message.{message-bytes}
 use Rattle.recording.specs.Paint.{paint-pixels}
 
@@ -28,21 +28,21 @@ console-line ws =
     Ok (record { width = width; height = height; presenter = cond composer Composer Scanout; pixels = pixels })
 
 -- N
-abbrev pub events-line : List (List ℕ) → Result ℕ Problem
+abbrev pub events-line : List (List ℕ) → Result PlainLine Problem
 events-line ws =
-    reading (unsigned-argument Places) ws λ places ws.
+    reading (unsigned-argument Places) ws λ n ws.
     reading line-end ws λ _ _.
-    Ok places
+    Ok (places n)
 
 -- CLIENT HEX..
-abbrev pub request-line : List (List ℕ) → Result PlainCall Problem
+abbrev pub request-line : List (List ℕ) → Result PlainLine Problem
 request-line ws =
     reading (unsigned-argument Client) ws λ client ws.
     and-then (message-bytes [] ws) λ message.
-    Ok (request client message)
+    Ok (call (request client message))
 
 -- CLIENT ID FIRST WIDTH HEIGHT STRIDE FORMAT
-abbrev pub buffer-line : List (List ℕ) → Result PlainCall Problem
+abbrev pub buffer-line : List (List ℕ) → Result PlainLine Problem
 buffer-line ws =
     reading (unsigned-argument Client) ws λ client ws.
     reading (unsigned-argument Id) ws λ id ws.
@@ -52,37 +52,37 @@ buffer-line ws =
     reading (unsigned-argument Stride) ws λ stride ws.
     reading (unsigned-argument Format) ws λ format ws.
     reading line-end ws λ _ _.
-    Ok (buffer client id first width height stride format)
+    Ok (call (buffer client id first width height stride format))
 
 -- CLIENT ID X Y
-abbrev pub root-line : List (List ℕ) → Result PlainCall Problem
+abbrev pub root-line : List (List ℕ) → Result PlainLine Problem
 root-line ws =
     reading (unsigned-argument Client) ws λ client ws.
     reading (unsigned-argument Id) ws λ id ws.
     reading (signed-argument X) ws λ x ws.
     reading (signed-argument Y) ws λ y ws.
     reading line-end ws λ _ _.
-    Ok (root client id x y)
+    Ok (call (root client id x y))
 
 -- CLIENT ID OFFSET PIXEL..
-abbrev pub paint-line : List (List ℕ) → Result PlainCall Problem
+abbrev pub paint-line : List (List ℕ) → Result PlainLine Problem
 paint-line ws =
     reading (unsigned-argument Client) ws λ client ws.
     reading (unsigned-argument Id) ws λ id ws.
     reading (unsigned-argument Offset) ws λ offset ws.
     and-then (paint-pixels [] ws) λ pixels.
-    Ok (paint client id offset pixels)
+    Ok (call (paint client id offset pixels))
 
 -- on|off
-abbrev pub switch-line : List (List ℕ) → Result PlainCall Problem
+abbrev pub switch-line : List (List ℕ) → Result PlainLine Problem
 switch-line ws =
     reading (either-word (codes "on") (codes "off") SwitchForm) ws λ on ws.
     reading line-end ws λ _ _.
-    Ok (switch on)
+    Ok (call (switch on))
 
 -- TIME
-abbrev pub frame-line : List (List ℕ) → Result PlainCall Problem
+abbrev pub frame-line : List (List ℕ) → Result PlainLine Problem
 frame-line ws =
     reading (unsigned-argument Time) ws λ time ws.
     reading line-end ws λ _ _.
-    Ok (frame time)
+    Ok (call (frame time))

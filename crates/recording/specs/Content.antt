@@ -7,6 +7,8 @@ use Rattle.std.specs.Of.Vec.{vec-items}
 use Rattle.recording.specs.declared.content.Call.{Call}
 use Rattle.recording.specs.declared.content.Call.the-variants.{Request, Buffer, Root, Paint, Switch, Frame}
 use Rattle.recording.specs.declared.content.Entry.{Entry}
+use Rattle.recording.specs.declared.content.Line.{Line}
+use Rattle.recording.specs.declared.content.Line.the-variants.{Empty, Places, Call as CallLine}
 
 -- one call with its arguments
 pub data PlainCall : Type 0 where
@@ -36,3 +38,14 @@ plain-entry entry = record { line = entry .line; places = entry .places; call = 
 
 abbrev pub plain-entries : List Entry → List PlainEntry
 plain-entries entries = map plain-entry entries
+
+-- what a line after the console's says: nothing, the places of later event lists, or a call
+pub data PlainLine : Type 0 where
+  empty : PlainLine
+  places : ℕ → PlainLine
+  call : PlainCall → PlainLine
+
+abbrev pub plain-line : Line → PlainLine
+plain-line Empty = empty
+plain-line (Places n) = places n
+plain-line (CallLine c) = call (plain-call c)

@@ -10,14 +10,11 @@ use Rattle.std.specs.declared.result.Result.the-variants.{Ok, Err}
 use Rattle.std.specs.shelf.Text.{sameBytes}
 use Rattle.text.specs.declared.problem.Problem.{Problem}
 use Rattle.text.specs.declared.problem.Problem.the-variants.{SecondConsole, UnknownLine}
-use Rattle.text.specs.Argument.{and-then}
 use Rattle.text.specs.Lines.{first-of, after-first}
 use Rattle.recording.specs.declared.keyword.Keyword.{Keyword}
 use Rattle.recording.specs.declared.keyword.Keyword.the-variants.{Events, Request, Buffer, Root, Paint, Switch, Frame, Console, Unknown}
-use Rattle.recording.specs.declared.line.Line.{Line}
-use Rattle.recording.specs.declared.line.Line.the-variants.{Empty, Places, Call}
 use Rattle.recording.specs.CallLine.{events-line, request-line, buffer-line, root-line, paint-line, switch-line, frame-line}
-use Rattle.recording.specs.Content.{PlainCall, plain-call}
+use Rattle.recording.specs.Content.{PlainLine, empty}
 
 -- the kind of a line, by the word that it begins with
 unfoldable pub keyword : List ℕ → Keyword
@@ -31,30 +28,15 @@ keyword word =
     (cond (sameBytes word (codes "frame")) Frame
     (cond (sameBytes word (codes "console")) Console Unknown)))))))
 
--- no word, the places of later event lists, or a call
-pub data PlainLine : Type 0 where
-  empty : PlainLine
-  places : ℕ → PlainLine
-  call : PlainCall → PlainLine
-
-abbrev pub plain-line : Line → PlainLine
-plain-line Empty = empty
-plain-line (Places n) = places n
-plain-line (Call c) = call (plain-call c)
-
--- a call, if it is one
-abbrev pub calling : Result PlainCall Problem → Result PlainLine Problem
-calling said = and-then said λ c. Ok (call c)
-
 -- by its kind and the words after the first
 abbrev pub line-by : Keyword → List (List ℕ) → Result PlainLine Problem
-line-by Events ws = and-then (events-line ws) λ n. Ok (places n)
-line-by Request ws = calling (request-line ws)
-line-by Buffer ws = calling (buffer-line ws)
-line-by Root ws = calling (root-line ws)
-line-by Paint ws = calling (paint-line ws)
-line-by Switch ws = calling (switch-line ws)
-line-by Frame ws = calling (frame-line ws)
+line-by Events ws = events-line ws
+line-by Request ws = request-line ws
+line-by Buffer ws = buffer-line ws
+line-by Root ws = root-line ws
+line-by Paint ws = paint-line ws
+line-by Switch ws = switch-line ws
+line-by Frame ws = frame-line ws
 line-by Console ws = Err SecondConsole
 line-by Unknown ws = Err UnknownLine
 

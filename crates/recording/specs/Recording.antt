@@ -11,8 +11,8 @@ use Rattle.text.specs.Lines.{lines}
 use Rattle.text.specs.Words.{words}
 use Rattle.recording.specs.declared.content.Console.{Console}
 use Rattle.recording.specs.CallLine.{console-line}
-use Rattle.recording.specs.Content.{PlainEntry}
-use Rattle.recording.specs.Line.{PlainLine, empty, places, call, line-of}
+use Rattle.recording.specs.Content.{PlainEntry, PlainLine, empty, places, call}
+use Rattle.recording.specs.Line.{line-of}
 
 -- how many places event lists have after a line
 abbrev pub places-after : PlainLine → ℕ → ℕ

@@ -67,3 +67,13 @@ pub struct Recording {
     pub console_line: usize,
     pub entries: Vec<Entry>,
 }
+
+// What a line after the console's says.
+#[derive(Drop)]
+pub(crate) enum Line {
+    // There is no word on it.
+    Empty,
+    // How many places the event lists of later calls have.
+    Places(u32),
+    Call(Call),
+}

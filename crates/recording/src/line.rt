@@ -4,7 +4,8 @@ ghost use Rattle.std.specs.declared.result.Result.the-variants.{Ok};
 ghost use Rattle.std.specs.Results.{Cases};
 ghost use Rattle.text.specs.Told.{Wrong};
 ghost use Rattle.text.specs.Words.{words, words-left};
-ghost use Rattle.recording.specs.Line.{plain-line, line-by, line-of};
+ghost use Rattle.recording.specs.Content.{plain-line};
+ghost use Rattle.recording.specs.Line.{line-by, line-of};
 use super::call_line::buffer_line;
 use super::call_line::events_line;
 use super::call_line::frame_line;
@@ -12,38 +13,28 @@ use super::call_line::paint_line;
 use super::call_line::request_line;
 use super::call_line::root_line;
 use super::call_line::switch_line;
-use super::content::Call;
+use super::content::Line;
 use super::keyword::Keyword;
 use super::keyword::find_keyword;
 use std::alloc::Global;
 use text::Problem;
 use text::Words;
 
-#[derive(Drop)]
-pub(crate) enum Line {
-    // There is no word on it.
-    Empty,
-    // How many places the event lists of later calls have.
-    Places(u32),
-    Call(Call),
-}
-
 // A line past its first word.
 fn read_rest(heap: Global, keyword: Keyword, line: &mut Words<'_>) -> Result<Line, Problem>
     ensures { λ r. ⌜ Cases r (λ said. line-by keyword (words-left (now (line .entry))) ≡ Ok (plain-line said)) (λ e. Wrong e (line-by keyword (words-left (now (line .entry))))) ⌝ }
 {
-    let call = match keyword {
-        Keyword::Events => return Ok(Line::Places(events_line(line)?)),
-        Keyword::Request => request_line(heap, line)?,
-        Keyword::Buffer => buffer_line(line)?,
-        Keyword::Root => root_line(line)?,
-        Keyword::Paint => paint_line(heap, line)?,
-        Keyword::Switch => switch_line(line)?,
-        Keyword::Frame => frame_line(line)?,
-        Keyword::Console => return Err(Problem::SecondConsole),
-        Keyword::Unknown => return Err(Problem::UnknownLine),
-    };
-    Ok(Line::Call(call))
+    match keyword {
+        Keyword::Events => events_line(line),
+        Keyword::Request => request_line(heap, line),
+        Keyword::Buffer => buffer_line(line),
+        Keyword::Root => root_line(line),
+        Keyword::Paint => paint_line(heap, line),
+        Keyword::Switch => switch_line(line),
+        Keyword::Frame => frame_line(line),
+        Keyword::Console => Err(Problem::SecondConsole),
+        Keyword::Unknown => Err(Problem::UnknownLine),
+    }
 }
 
 pub(crate) fn read_line(heap: Global, line: &[u8]) -> Result<Line, Problem>

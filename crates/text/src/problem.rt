@@ -6,7 +6,7 @@ ghost use Rattle.text.specs.Message.{argument-name, problem-subject, problem-t
 use std::fmt;
 
 // An argument of a line, by the name that messages give it.
-#[derive(Clone, Copy, Debug)]
+#[derive(Clone, Copy)]
 pub enum Argument {
     X,
     Y,
@@ -24,7 +24,7 @@ pub enum Argument {
 }
 
 // What is wrong with a line.
-#[derive(Clone, Copy, Debug)]
+#[derive(Clone, Copy)]
 pub enum Problem {
     // There is no line with a word.
     NoConsole,
@@ -46,7 +46,7 @@ pub enum Problem {
 }
 
 // A line that is wrong, counted from 1.
-#[derive(Clone, Copy, Debug)]
+#[derive(Clone, Copy)]
 pub struct BadLine {
     pub line: usize,
     pub problem: Problem,
@@ -139,5 +139,13 @@ pub impl fmt::Display for BadLine as BadLineDisplay {
         let line = self.line;
         let problem = self.problem;
         write!(f, "line {line}: {problem}")
+    }
+}
+
+// As it is shown: tests and `?` ask for this.
+pub impl fmt::Debug for BadLine as BadLineDebug {
+    fn fmt<W: fmt::Write>(&self, f: &mut fmt::Formatter<W>) -> fmt::Result {
+        let bad = *self;
+        write!(f, "{bad}")
     }
 }

@@ -36,31 +36,26 @@ fn shown(heap: Global, call: &Call) -> Result<String, AllocError> {
     }
 }
 
+// A line, and the call that it says.
+const CALLS: &str = "request 7 0a0B ff => request 7 [10, 11, 255]
+request 4294967295 => request 4294967295 []
+request 0 # 00 => request 0 []
+buffer 1 2 3 4 5 6 7 => buffer 1 2 3 4 5 6 7
+root 1 2 -2147483648 2147483647 => root 1 2 -2147483648 2147483647
+paint 1 2 3 0000000a 2*0000000B 0*00000000 ffffffff => paint 1 2 3 [10, 11, 11, 4294967295]
+paint 1 2 4294967295 => paint 1 2 4294967295 []
+switch on => switch true
+switch off => switch false
+frame 16 => frame 16";
+
 #[test]
 fn each_kind_of_call(rt: LibcRuntime) -> Result<(), Fail> {
     let heap = rt.alloc();
-    let lines = [
-        ("request 7 0a0B ff", "request 7 [10, 11, 255]"),
-        ("request 4294967295", "request 4294967295 []"),
-        ("request 0 # 00", "request 0 []"),
-        ("buffer 1 2 3 4 5 6 7", "buffer 1 2 3 4 5 6 7"),
-        (
-            "root 1 2 -2147483648 2147483647",
-            "root 1 2 -2147483648 2147483647",
-        ),
-        (
-            "paint 1 2 3 0000000a 2*0000000B 0*00000000 ffffffff",
-            "paint 1 2 3 [10, 11, 11, 4294967295]",
-        ),
-        ("paint 1 2 4294967295", "paint 1 2 4294967295 []"),
-        ("switch on", "switch true"),
-        ("switch off", "switch false"),
-        ("frame 16", "frame 16"),
-    ];
-    for (line, call) in lines {
+    for case in CALLS.lines() {
+        let (line, call) = case.split_once(" => ").ok_or("no call")?;
         let text = format!(heap, "console 1 1 composer 1\n{line}\n")?;
         let file = parse_recording(heap, text.as_bytes())?;
-        check_eq(file.entries.len(), 1).note(line)?;
+        check_eq(file.entries.len(), 1)?;
         for entry in file.entries.iter() {
             check_eq(shown(heap, &entry.call)?.as_str(), call)?;
         }
@@ -107,97 +102,67 @@ fn refused(heap: Global, text: &[u8], message: &str) -> Result<(), Fail> {
 }
 
 #[test]
-fn bad_first_lines(rt: LibcRuntime) -> Result<(), Fail> {
-    let texts = [
-        ("", "line 1: the file has no console line"),
-        ("#\n\n \r\n", "line 3: the file has no console line"),
-        (
-            "\nframe 1",
-            "line 2: the first line must be: console WIDTH HEIGHT composer|scanout PIXELS",
-        ),
-        (
-            "console 1 1",
-            "line 1: the first line must be: console WIDTH HEIGHT composer|scanout PIXELS",
-        ),
-        (
-            "console 1 1 painter 1",
-            "line 1: the first line must be: console WIDTH HEIGHT composer|scanout PIXELS",
-        ),
-        ("console 1", "line 1: HEIGHT is missing"),
-        (
-            "console 1 1 scanout -1",
-            "line 1: PIXELS is not a number from 0 to 4294967295",
-        ),
-        ("console 1 1 scanout 1 1", "line 1: a word too many"),
-    ];
-    for (text, message) in texts {
-        refused(rt.alloc(), text.as_bytes(), message)?;
+fn no_console(rt: LibcRuntime) -> Result<(), Fail> {
+    refused(rt.alloc(), b"", "line 1: the file has no console line")?;
+    refused(
+        rt.alloc(),
+        b"#\n\n \r\n",
+        "line 3: the file has no console line",
+    )
+}
+
+// The first line with a word, and what is said of it.
+const BAD_CONSOLES: &str =
+    "frame 1 => the first line must be: console WIDTH HEIGHT composer|scanout PIXELS
+console 1 1 => the first line must be: console WIDTH HEIGHT composer|scanout PIXELS
+console 1 1 painter 1 => the first line must be: console WIDTH HEIGHT composer|scanout PIXELS
+console 1 => HEIGHT is missing
+console 1 1 scanout -1 => PIXELS is not a number from 0 to 4294967295
+console 1 1 scanout 1 1 => a word too many";
+
+// A line after the console's, and what is said of it.
+const BAD_LINES: &str = "console 1 1 composer 1 => a second console line
+frames 1 => unknown word at the start of the line
+frame => TIME is missing
+frame 1 2 => a word too many
+events => N is missing
+events 4294967296 => N is not a number from 0 to 4294967295
+events 1 1 => a word too many
+request => CLIENT is missing
+request 1 0a 0 => a message is hex digits, an even number to a word
+request 1 0a0g => a message is hex digits, an even number to a word
+request 1 g0 frame => a message is hex digits, an even number to a word
+buffer 1 => ID is missing
+buffer 1 2 3 4 5 6 => FORMAT is missing
+buffer 1 2 3 4 5 6 7 8 => a word too many
+root 1 2 3 => Y is missing
+root 1 2 2147483648 x => X is not a number from -2147483648 to 2147483647
+root 1 2 3 4 5 => a word too many
+paint 1 2 => OFFSET is missing
+paint 1 2 3 00000000 2*0000000 => a pixel is eight hex digits, or N*PIXEL
+paint 1 2 3 4294967296*00000000 => a pixel is eight hex digits, or N*PIXEL
+switch => switch is on or off
+switch On => switch is on or off
+switch on off => a word too many";
+
+// Each case, after some lines, and before one that is not reached.
+fn refused_after(heap: Global, lines: &str, number: u32, cases: &str) -> Result<(), Fail> {
+    for case in cases.lines() {
+        let (line, why) = case.split_once(" => ").ok_or("no message")?;
+        let text = format!(heap, "{lines}{line}\nframe")?;
+        let message = format!(heap, "line {number}: {why}")?;
+        refused(heap, text.as_bytes(), message.as_str())?;
     }
     Ok(())
 }
 
 #[test]
-fn bad_arguments(rt: LibcRuntime) -> Result<(), Fail> {
-    let texts = [
-        ("console 1 1 composer 1", "line 2: a second console line"),
-        ("frames 1", "line 2: unknown word at the start of the line"),
-        ("frame 1\n\n#\nframe", "line 5: TIME is missing"),
-        ("frame 1 2", "line 2: a word too many"),
-        ("events", "line 2: N is missing"),
-        (
-            "events 4294967296",
-            "line 2: N is not a number from 0 to 4294967295",
-        ),
-        ("events 1 1", "line 2: a word too many"),
-        ("request", "line 2: CLIENT is missing"),
-        ("buffer 1", "line 2: ID is missing"),
-        ("buffer 1 2 3 4 5 6", "line 2: FORMAT is missing"),
-        ("buffer 1 2 3 4 5 6 7 8", "line 2: a word too many"),
-        ("root 1 2 3", "line 2: Y is missing"),
-        (
-            "root 1 2 2147483648 x",
-            "line 2: X is not a number from -2147483648 to 2147483647",
-        ),
-        ("root 1 2 3 4 5", "line 2: a word too many"),
-        ("paint 1 2", "line 2: OFFSET is missing"),
-    ];
-    for (text, message) in texts {
-        let file = format!(rt.alloc(), "console 1 1 composer 4\n{text}")?;
-        refused(rt.alloc(), file.as_bytes(), message)?;
-    }
-    Ok(())
-}
-
-#[test]
-fn bad_bytes_pixels_and_switches(rt: LibcRuntime) -> Result<(), Fail> {
-    let texts = [
-        (
-            "request 1 0a 0",
-            "line 2: a message is hex digits, an even number to a word",
-        ),
-        (
-            "request 1 0a0g",
-            "line 2: a message is hex digits, an even number to a word",
-        ),
-        (
-            "request 1 g0 frame",
-            "line 2: a message is hex digits, an even number to a word",
-        ),
-        (
-            "paint 1 2 3 00000000 2*0000000",
-            "line 2: a pixel is eight hex digits, or N*PIXEL",
-        ),
-        (
-            "paint 1 2 3 4294967296*00000000",
-            "line 2: a pixel is eight hex digits, or N*PIXEL",
-        ),
-        ("switch", "line 2: switch is on or off"),
-        ("switch On", "line 2: switch is on or off"),
-        ("switch on off", "line 2: a word too many"),
-    ];
-    for (text, message) in texts {
-        let file = format!(rt.alloc(), "console 1 1 composer 4\n{text}")?;
-        refused(rt.alloc(), file.as_bytes(), message)?;
-    }
-    Ok(())
+fn bad_lines(rt: LibcRuntime) -> Result<(), Fail> {
+    refused_after(rt.alloc(), "# before\n\n", 3, BAD_CONSOLES)?;
+    refused_after(
+        rt.alloc(),
+        "console 1 1 composer 4\n\nframe 1\r\n",
+        4,
+        BAD_LINES,
+    )
 }

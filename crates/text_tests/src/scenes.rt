@@ -97,94 +97,54 @@ fn numbers_at_their_bounds(rt: LibcRuntime) -> Result<(), Fail> {
 }
 
 #[test]
-fn bad_first_lines(rt: LibcRuntime) -> Result<(), Fail> {
-    let texts = [
-        ("", "line 1: the file has no console line"),
-        (
-            "\n# nothing\n\t\r\n",
-            "line 3: the file has no console line",
-        ),
-        (
-            "\npixels 0",
-            "line 2: the first line must be: console WIDTH HEIGHT composer PIXELS",
-        ),
-        (
-            "console 1 2 3 4",
-            "line 1: the first line must be: console WIDTH HEIGHT composer PIXELS",
-        ),
-        ("console# 1 1 composer 1", "line 1: WIDTH is missing"),
-        (
-            "console 4294967296 1 composer 1",
-            "line 1: WIDTH is not a number from 0 to 4294967295",
-        ),
-        (
-            "console 1 1x composer 1",
-            "line 1: HEIGHT is not a number from 0 to 4294967295",
-        ),
-        ("console 1 1 composer", "line 1: PIXELS is missing"),
-        ("console 1 1 composer 1 1", "line 1: a word too many"),
-    ];
-    for (text, message) in texts {
-        refused(rt.alloc(), text.as_bytes(), message)?;
+fn no_console(rt: LibcRuntime) -> Result<(), Fail> {
+    refused(rt.alloc(), b"", "line 1: the file has no console line")?;
+    refused(
+        rt.alloc(),
+        b"\n# nothing\n\t\r\n",
+        "line 3: the file has no console line",
+    )
+}
+
+// The first line with a word, and what is said of it.
+const BAD_CONSOLES: &str = "pixels 0 => the first line must be: console WIDTH HEIGHT composer PIXELS
+console 1 2 3 4 => the first line must be: console WIDTH HEIGHT composer PIXELS
+console# 1 1 composer 1 => WIDTH is missing
+console 4294967296 1 composer 1 => WIDTH is not a number from 0 to 4294967295
+console 1 1x composer 1 => HEIGHT is not a number from 0 to 4294967295
+console 1 1 composer => PIXELS is missing
+console 1 1 composer 1 1 => a word too many";
+
+// A line after the console's, and what is said of it.
+const BAD_LINES: &str = "console => a second console line
+elements 0 => unknown word at the start of the line
+element -2147483649 0 0 1 1 1 0 => X is not a number from -2147483648 to 2147483647
+element 0 2147483648 0 1 1 1 0 => Y is not a number from -2147483648 to 2147483647
+element 0 - 0 1 1 1 0 => Y is not a number from -2147483648 to 2147483647
+element 0 0 -1 1 1 1 0 => FIRST is not a number from 0 to 4294967295
+element 0 0 0 1 1 +1 0 => STRIDE is not a number from 0 to 4294967295
+element 0 0 0 1 1 1 => FORMAT is missing
+element 0 0 0 1 1 1 0 0 => a word too many
+pixels => FIRST is missing
+pixels 0 123456789 => a pixel is eight hex digits, or N*PIXEL
+pixels 9 1234567g => a pixel is eight hex digits, or N*PIXEL
+pixels 0 *12345678 => a pixel is eight hex digits, or N*PIXEL
+pixels 3 12345678 12345678 => the pixels do not fit the pixel memory
+pixels 1 4294967295*12345678 => the pixels do not fit the pixel memory";
+
+// Each case, after some lines, and before one that is not reached.
+fn refused_after(heap: Global, lines: &str, number: u32, cases: &str) -> Result<(), Fail> {
+    for case in cases.lines() {
+        let (line, why) = case.split_once(" => ").ok_or("no message")?;
+        let text = format!(heap, "{lines}{line}\nconsole")?;
+        let message = format!(heap, "line {number}: {why}")?;
+        refused(heap, text.as_bytes(), message.as_str())?;
     }
     Ok(())
 }
 
 #[test]
-fn bad_later_lines(rt: LibcRuntime) -> Result<(), Fail> {
-    let texts = [
-        ("console", "line 2: a second console line"),
-        (
-            "elements 0",
-            "line 2: unknown word at the start of the line",
-        ),
-        (
-            "element -2147483649 0 0 1 1 1 0",
-            "line 2: X is not a number from -2147483648 to 2147483647",
-        ),
-        (
-            "element 0 2147483648 0 1 1 1 0",
-            "line 2: Y is not a number from -2147483648 to 2147483647",
-        ),
-        (
-            "element 0 - 0 1 1 1 0",
-            "line 2: Y is not a number from -2147483648 to 2147483647",
-        ),
-        (
-            "element 0 0 -1 1 1 1 0",
-            "line 2: FIRST is not a number from 0 to 4294967295",
-        ),
-        (
-            "element 0 0 0 1 1 +1 0",
-            "line 2: STRIDE is not a number from 0 to 4294967295",
-        ),
-        ("element 0 0 0 1 1 1", "line 2: FORMAT is missing"),
-        ("element 0 0 0 1 1 1 0 0", "line 2: a word too many"),
-        ("#\n\npixels\nconsole", "line 4: FIRST is missing"),
-        (
-            "pixels 0 123456789",
-            "line 2: a pixel is eight hex digits, or N*PIXEL",
-        ),
-        (
-            "pixels 9 1234567g",
-            "line 2: a pixel is eight hex digits, or N*PIXEL",
-        ),
-        (
-            "pixels 0 *12345678",
-            "line 2: a pixel is eight hex digits, or N*PIXEL",
-        ),
-        (
-            "pixels 3 12345678 12345678",
-            "line 2: the pixels do not fit the pixel memory",
-        ),
-        (
-            "pixels 1 4294967295*12345678",
-            "line 2: the pixels do not fit the pixel memory",
-        ),
-    ];
-    for (text, message) in texts {
-        let file = format!(rt.alloc(), "console 1 1 composer 4\n{text}")?;
-        refused(rt.alloc(), file.as_bytes(), message)?;
-    }
-    Ok(())
+fn bad_lines(rt: LibcRuntime) -> Result<(), Fail> {
+    refused_after(rt.alloc(), "\n# before\n", 3, BAD_CONSOLES)?;
+    refused_after(rt.alloc(), "console 1 1 composer 4\n#\n\n", 4, BAD_LINES)
 }

@@ -1,0 +1,15 @@
+pub mod State
+pub mod Setters
+pub mod Table
+pub mod Run
+pub mod Hold
+pub mod Callback
+pub mod Tree
+pub mod Apply
+pub mod Unlink
+pub mod Walk
+pub mod Station
+pub mod Name
+pub mod Ask
+pub mod Carry
+pub mod Call
