@@ -1,4 +1,6 @@
 // What holds of a core after any calls: theorems over the rules.
+#![tactic(auto)]
+
 ghost use Rattle.bounds.specs.Reached.{EventsFit, DepthSuffices, SpansApart};
 
 // No call sends more than 160 events, whatever calls came before.

@@ -1,4 +1,6 @@
 // The composer: a presenter that draws each scene into a frame memory.
+#![tactic(auto)]
+
 mod composer;
 mod lent;
 

@@ -1,4 +1,6 @@
 // Shows the scene of a file on a composer, and prints what stands on the glass.
+#![tactic(auto)]
+
 mod options;
 mod output;
 mod show;

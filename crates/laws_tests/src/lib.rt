@@ -1,4 +1,6 @@
 // The definitions of the laws, tried on some runs.
+#![tactic(auto)]
+
 ghost use Rattle.laws_tests.specs.Tried.{Tried};
 
 // Holds by computing each run.

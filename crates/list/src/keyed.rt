@@ -12,9 +12,9 @@ pub trait Keyed<K> {
 
 // The first place of a record that bears a key.
 fn first_bearer<K, R: Keyed<K>>(records: &[R], key: &K) -> Option<usize>
-    ensures first { result ≡ place (bearer key.now) records.now }
+    ensures first { result ≡ place (R.bearer key.now) records.now }
     ensures within { IfSome result (λ i. i < length records.now) }
-    ensures found { is_some result ≡ any (bearer key.now) records.now }
+    ensures found { is_some result ≡ any (R.bearer key.now) records.now }
 {
     for (i, record) in records.iter().enumerate() {
         if record.bears(key) {
@@ -26,9 +26,9 @@ fn first_bearer<K, R: Keyed<K>>(records: &[R], key: &K) -> Option<usize>
 
 // The first place of a record that bears a key; none exactly if no record does.
 pub fn find<K, R: Keyed<K>>(records: &[R], key: &K) -> Option<usize>
-    ensures first { result ≡ place (bearer key.now) records.now }
+    ensures first { result ≡ place (R.bearer key.now) records.now }
     ensures within { IfSome result (λ i. i < length records.now) }
-    ensures found { is_some result ≡ any (bearer key.now) records.now }
+    ensures found { is_some result ≡ any (R.bearer key.now) records.now }
 {
     first_bearer(records, key)
 }

@@ -1,4 +1,6 @@
 // Lists over lent places and in places of their own, and the search by key.
+#![tactic(auto)]
+
 mod appender;
 mod indices;
 mod keyed;

@@ -1,4 +1,6 @@
 // The types that every crate shares; `specs/` has the rules that contracts cite.
+#![tactic(auto)]
+
 pub mod element;
 pub mod event;
 pub mod fault;

@@ -1,4 +1,6 @@
 // Pixels laid on pixels: one by one, and a row of them.
+#![tactic(auto)]
+
 mod over;
 mod row;
 #[cfg(test)]

@@ -1,4 +1,6 @@
 // Presenters: what shows a scene on an output, for every kind of presenter.
+#![tactic(auto)]
+
 mod checks;
 mod first;
 mod presenter;

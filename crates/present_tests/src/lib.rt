@@ -1,4 +1,6 @@
 // Tests of presenters by examples, in a crate of their own since each is proved too.
+#![tactic(auto)]
+
 #[cfg(test)]
 mod answers;
 #[cfg(test)]

@@ -1,4 +1,6 @@
 // Elements drawn into a frame memory, row by row.
+#![tactic(auto)]
+
 mod clip;
 mod draw;
 mod frame;

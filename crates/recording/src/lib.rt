@@ -1,4 +1,6 @@
 // Recordings: the calls that a console was given, one a line.
+#![tactic(auto)]
+
 mod call_line;
 mod choice;
 pub mod content;

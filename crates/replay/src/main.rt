@@ -1,4 +1,6 @@
 // The bench: reads a recording and lists its calls.
+#![tactic(auto)]
+
 mod listing;
 mod options;
 

@@ -1,4 +1,6 @@
 // Results written as text: answers, the pixels of a glass, pictures.
+#![tactic(auto)]
+
 mod answer;
 mod append;
 mod crc;

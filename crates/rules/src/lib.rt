@@ -1,4 +1,6 @@
 // The rules of the core as a plain machine; `specs/` has them, and these are the types that they share with the code.
+#![tactic(auto)]
+
 pub mod attach;
 pub mod buffer;
 pub mod callback;

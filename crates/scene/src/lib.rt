@@ -1,4 +1,6 @@
 // Scene files: the screen, the pixels and the elements that a presenter is given to show.
+#![tactic(auto)]
+
 pub mod content;
 mod items;
 mod parse;

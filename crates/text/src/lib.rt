@@ -1,4 +1,6 @@
 // Text files: lines, words, the numbers and pixels that words write, and what is wrong with a line.
+#![tactic(auto)]
+
 mod argument;
 mod first;
 pub mod lines;

@@ -1,4 +1,6 @@
 // Tests of scene files and recordings.
+#![tactic(auto)]
+
 #[cfg(test)]
 mod recordings;
 #[cfg(test)]

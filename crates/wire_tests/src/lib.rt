@@ -1,4 +1,6 @@
 // Tests of messages by bytes as libwayland sends them, in a crate of their own since each is proved too.
+#![tactic(auto)]
+
 #[cfg(test)]
 mod answer;
 #[cfg(test)]

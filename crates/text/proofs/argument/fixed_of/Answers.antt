@@ -7,16 +7,16 @@ use Rattle.text.proofs.argument.fixed_of.Goals as goal
 abbrev answered : Problem → Bool → Result (Unit {0}) Problem
 answered problem same = cond same (Ok tt) (Err problem)
 
-pub returns-then-is-text : goal.returns-then-is-text
+pub returns-then-is_text : goal.returns-then-is_text
 unfolding fixed_word
-returns-then-is-text c =
-    ap (answered c.args.problem) c.if-is-text.ensures
+returns-then-is_text c =
+    ap (answered c.args.problem) c.if-is_text.ensures
     ∙ ap (λ w. fixed_word c.args.text.now c.args.problem (option_map (λ x. x.now) w)) (sym c.in-Some.is)
 
-pub returns-else-is-text : goal.returns-else-is-text
+pub returns-else-is_text : goal.returns-else-is_text
 unfolding fixed_word
-returns-else-is-text c =
-    ap (answered c.args.problem) c.if-is-text.ensures
+returns-else-is_text c =
+    ap (answered c.args.problem) c.if-is_text.ensures
     ∙ ap (λ w. fixed_word c.args.text.now c.args.problem (option_map (λ x. x.now) w)) (sym c.in-Some.is)
 
 pub returns-in-None : goal.returns-in-None

@@ -7,8 +7,8 @@ use Rattle.text.proofs.argument.signed_of.Goals as goal
 pub returns-in-Some : goal.returns-in-Some
 unfolding signed_argument
 returns-in-Some c =
-    c.ok-or.ensures.value
-    ∙ ap (λ o. ok_or o (NotSigned c.args.name)) c.read-signed.ensures
+    c.ok_or.ensures.value
+    ∙ ap (λ o. ok_or o (NotSigned c.args.name)) c.read_signed.ensures
     ∙ ap (λ w. signed_argument c.args.name (option_map (λ x. x.now) w)) (sym c.in-Some.is)
 
 pub returns-in-None : goal.returns-in-None

@@ -19,10 +19,10 @@ pub returns-in-42 : goal.returns-in-42
 returns-in-42 c =
     let front = c.args.front.now in
     let star : get_or front (length front - 1) 0 ≡ 42 = search rules in
-    c.read-number.ensures ∙ ap (λ t. cond t (unsigned (take (length front - 1) front)) None) (sym (eq-eqb _ 42 star)) ∙ sym (times_some front (search rules))
+    c.read_number.ensures ∙ ap (λ t. cond t (unsigned (take (length front - 1) front)) None) (sym (eq-eqb _ 42 star)) ∙ sym (times_some front (search rules))
 
-pub returns-in-default : goal.returns-in-default
-returns-in-default c =
+pub returns-in_default : goal.returns-in_default
+returns-in_default c =
     let front = c.args.front.now in
     let some : 0 < length front = search rules in
     let no-star : get_or front (length front - 1) 0 ≡ 42 → ⊥ = search rules in

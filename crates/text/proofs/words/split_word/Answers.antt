@@ -3,19 +3,19 @@ use Rattle.std.proofs.lemmas.Bool.{eqb-true, eqb-false}
 use Rattle.text.proofs.Parted.{next_word, no_word}
 use Rattle.text.proofs.words.split_word.Goals as goal
 
-pub returns-then-is-empty : goal.returns-then-is-empty
-returns-then-is-empty c =
-    let n : c.run-length-2.result ≡ 0 = omega (arith, eqb-true _ 0 (sym c.if-is-empty.ensures)) in
+pub returns-then-is_empty : goal.returns-then-is_empty
+returns-then-is_empty c =
+    let n : c.run_length-2.result ≡ 0 = omega (arith, eqb-true _ 0 (sym c.if-is_empty.ensures)) in
     record {
-      parts = (no_word c.args.line.now c.split-at.result.1.now _ _ c.run-length.ensures.count c.split-at.ensures.back c.run-length-2.ensures.count n).0;
+      parts = (no_word c.args.line.now c.split_at.result.1.now _ _ c.run_length.ensures.count c.split_at.ensures.back c.run_length-2.ensures.count n).0;
       shorter = tt;
     }
 
 pub returns : goal.returns
 returns c =
-    let n : 0 < c.run-length-2.result = omega (arith, eqb-false _ 0 (sym c.if-is-empty.ensures)) in
-    let law = next_word c.args.line.now c.split-at.result.1.now _ _ c.run-length.ensures.count c.split-at.ensures.back c.run-length-2.ensures.count n in
+    let n : 0 < c.run_length-2.result = omega (arith, eqb-false _ 0 (sym c.if-is_empty.ensures)) in
+    let law = next_word c.args.line.now c.split_at.result.1.now _ _ c.run_length.ensures.count c.split_at.ensures.back c.run_length-2.ensures.count n in
     record {
-      parts = law ∙ simp (c.split-at-2.ensures.front, c.split-at-2.ensures.back);
-      shorter = omega (arith, c.split-at-2.ensures.back_len, c.split-at.ensures.back_len);
+      parts = law ∙ simp (c.split_at-2.ensures.front, c.split_at-2.ensures.back);
+      shorter = omega (arith, c.split_at-2.ensures.back_len, c.split_at.ensures.back_len);
     }
