@@ -6,5 +6,5 @@ use Rattle.report.proofs.digits.write_hex.Goals as goal
 
 pub returns : goal.returns
 returns c =
-    let digits = c.in-ok-append.ensures ∙ ap (λ ds. vec_items c.args.out.now ++ ds) c.hex-digits.ensures in
+    let digits = c.in_ok-append.ensures ∙ ap (λ ds. vec_items c.args.out.now ++ ds) c.hex_digits.ensures in
     then_appends _ _ (hex c.args.n) _ _ _ digits c.append-2.ensures

@@ -5,13 +5,13 @@ use Rattle.report.specs.Ppm.{channels}
 use Rattle.report.proofs.Appending.{front_kept, one_more}
 use Rattle.report.proofs.ppm.write_pixels.Goals as goal
 
-pub returns-in-err-append : goal.returns-in-err-append
-returns-in-err-append c = search (rules, front_kept)
+pub returns-in_err-append : goal.returns-in_err-append
+returns-in_err-append c = search (rules, front_kept)
 
 pub loop-pixel-preserved : goal.loop-pixel-preserved
 loop-pixel-preserved c =
     let more = take_more c.args.pixels.now c.loop-pixel.pixel-index 0 c.loop-pixel-test.true in
-    one_more channels _ _ _ (vec_items c.append.new.out) _ _ _ more c.channels.ensures c.loop-pixel.invariant c.in-ok-append.ensures
+    one_more channels _ _ _ (vec_items c.append.new.out) _ _ _ more c.channels.ensures c.loop-pixel.invariant c.in_ok-append.ensures
 
 pub returns : goal.returns
 returns c = search (rules, take_all)

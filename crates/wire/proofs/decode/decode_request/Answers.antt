@@ -7,8 +7,8 @@ use Rattle.wire.proofs.decode.decode_request.Goals as goal
 
 pub returns : goal.returns
 returns c =
-    let below = words_below c.args.body.now (λ i. (c.type-inv.body i).fits) in
+    let below = words_below c.args.body.now (λ i. (c.type_inv.body i).fits) in
     record {
-      value = c.request-for.ensures;
-      numbers = ap in_numbers c.request-for.ensures ∙ request_asked (words c.args.body.now) below c.args.interface c.args.opcode;
+      value = c.request_for.ensures;
+      numbers = ap in_numbers c.request_for.ensures ∙ request_asked (words c.args.body.now) below c.args.interface c.args.opcode;
     }

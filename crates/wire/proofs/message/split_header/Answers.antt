@@ -9,6 +9,6 @@ returns-in-len8-up c =
     let bytes = c.args.bytes.now in
     let enough : 8 ≤ length bytes = search rules in
     let long : ltb (length bytes) 8 ≡ false = le-ltb (length bytes) 8 enough in
-    let first : c.from-le-bytes.result ≡ word bytes 0 = search rules in
-    let second : c.from-le-bytes-second.result ≡ word bytes 1 = search rules in
+    let first : c.from_le_bytes.result ≡ word bytes 0 = search rules in
+    let second : c.from_le_bytes-second.result ≡ word bytes 1 = search rules in
     record { header = simp (long, first, second); body = take_rest bytes 8 }

@@ -18,7 +18,7 @@ loop-i-preserved g c =
     let items = c.loop-i.word-items in
     let low : c.loop-i.i < length items = omega arith in (
       search rules,
-      λ k h. subst (λ v. get_or (set items c.loop-i.i v) k 0 ≡ word bytes k) (sym c.read-word.ensures) (fill_by_more (word bytes) items c.loop-i.i 0 low c.loop-i.invariant.1 k h),
+      λ k h. subst (λ v. get_or (set items c.loop-i.i v) k 0 ≡ word bytes k) (sym c.read_word.ensures) (fill_by_more (word bytes) items c.loop-i.i 0 low c.loop-i.invariant.1 k h),
     )
 
 pub returns : goal.returns

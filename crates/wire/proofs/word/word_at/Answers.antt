@@ -8,7 +8,7 @@ pub returns-then-i-bytes : goal.returns-then-i-bytes
 returns-then-i-bytes c =
     let bytes = c.args.bytes.now in
     let low : c.args.i < length (words bytes) = rw (length_words bytes) c.if-i-bytes.true in
-    ap Some (c.read-word.ensures ∙ sym (get_d_words bytes c.args.i c.if-i-bytes.true))
+    ap Some (c.read_word.ensures ∙ sym (get_d_words bytes c.args.i c.if-i-bytes.true))
     ∙ sym (slice_get-get_or (words bytes) c.args.i 0 low)
 
 pub returns-else-i-bytes : goal.returns-else-i-bytes
