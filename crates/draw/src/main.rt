@@ -11,22 +11,30 @@ use output::{Report, report_scene};
 use report::write_ppm;
 use scene::{Console, parse_scene};
 use std::io::{Read, Write};
+use std::process::ExitCode;
 use std::{env, fs};
 
 // What is wrong has been printed.
 #[derive(Drop)]
 struct Stopped;
 
-fn main(rt: HostRuntime) -> Result<(), Stopped> {
-    let Ok(args) = env::args(&rt) else {
-        return stop(&rt, "the arguments cannot be read");
+fn main(rt: HostRuntime) -> ExitCode {
+    match run(&rt) {
+        Ok(()) => ExitCode::SUCCESS,
+        Err(Stopped) => ExitCode::FAILURE,
+    }
+}
+
+fn run(rt: &HostRuntime) -> Result<(), Stopped> {
+    let Ok(args) = env::args(rt) else {
+        return stop(rt, "the arguments cannot be read");
     };
     match read_options(args) {
         Ok(Options::Help) => {
             let _ = rt.print(HELP);
             Ok(())
         }
-        Ok(Options::Draw { scene, ppm }) => draw(&rt, scene, ppm),
+        Ok(Options::Draw { scene, ppm }) => draw(rt, scene, ppm),
         Err(misuse) => {
             let _ = eprintln!(rt; "{misuse}; draw --help says what there is");
             Err(Stopped)

@@ -8,20 +8,28 @@ use listing::list_calls;
 use options::{HELP, Options, read_options};
 use recording::parse_recording;
 use std::io::Write;
+use std::process::ExitCode;
 use std::{env, fs};
 
 // What is wrong has been printed.
 #[derive(Drop)]
 struct Stopped;
 
-fn main(rt: HostRuntime) -> Result<(), Stopped> {
-    let Ok(args) = env::args(&rt) else {
+fn main(rt: HostRuntime) -> ExitCode {
+    match run(&rt) {
+        Ok(()) => ExitCode::SUCCESS,
+        Err(Stopped) => ExitCode::FAILURE,
+    }
+}
+
+fn run(rt: &HostRuntime) -> Result<(), Stopped> {
+    let Ok(args) = env::args(rt) else {
         let _ = eprintln!(rt; "the arguments cannot be read");
         return Err(Stopped);
     };
     match read_options(args) {
-        Ok(Options::Help) => print(&rt, HELP),
-        Ok(Options::List { recording }) => list(&rt, recording.as_str()),
+        Ok(Options::Help) => print(rt, HELP),
+        Ok(Options::List { recording }) => list(rt, recording.as_str()),
         Err(misuse) => {
             let _ = eprintln!(rt; "{misuse}; replay --help says what there is");
             Err(Stopped)

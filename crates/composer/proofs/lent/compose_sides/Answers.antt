@@ -9,13 +9,13 @@ pub returns : goal.returns
 returns c =
     let new = c.new-composer.ensures in
     let c0 = c.new-composer.result in
-    let d = c.first-frame.new.p in
+    let d = c.first_frame.new.p in
     let scene = c.args.scene.now in
     let m = c.args.memory.now in
-    let found = composed_frame c0 d scene m new.dark c.first-frame.ensures.left in
+    let found = composed_frame c0 d scene m new.dark c.first_frame.ensures.left in
     let lender = found.1 ∙ new.lender in
     let filled : d.frame.now ≡ composed c.args.width c.args.height c.args.frame.now scene m = found.0 ∙ rw (new.width, new.height, new.frame) in
     record {
-      answer = c.first-frame.ensures.answer ∙ ap (λ a. then a (show_answer true scene (length m))) (on_fits c0.width c0.height (length c0.frame.now)) ∙ rw (new.width, new.height, new.frame);
+      answer = c.first_frame.ensures.answer ∙ ap (λ a. then a (show_answer true scene (length m))) (on_fits c0.width c0.height (length c0.frame.now)) ∙ rw (new.width, new.height, new.frame);
       frame = search rules;
     }

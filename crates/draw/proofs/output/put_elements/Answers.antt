@@ -10,5 +10,5 @@ returns c h =
     let items = c.args.items.now in
     let few = few_elements items in
     let room : length (elements items) ≤ length c.new-list.result.places.now = rw new.places (omega arith) in
-    let all = appended_all c.new-list.result c.collect-elements.new.out (elements items) c.collect-elements.ensures new.count room in
+    let all = appended_all c.new-list.result c.collect_elements.new.out (elements items) c.collect_elements.ensures new.count room in
     (search rules, search rules)

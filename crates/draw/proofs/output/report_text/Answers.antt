@@ -8,12 +8,12 @@ use Rattle.draw.proofs.output.report_text.Goals as goal
 pub returns-in-Err : goal.returns-in-Err
 returns-in-Err c =
     let a = c.args.answer.now in
-    let written : vec_items c.write-answer.new.out ≡ answer_line a = c.in-ok-write-answer.ensures ∙ ap (λ v. v ++ answer_line a) c.new-text.ensures.items in
+    let written : vec_items c.write_answer.new.out ≡ answer_line a = c.in_ok-write_answer.ensures ∙ ap (λ v. v ++ answer_line a) c.new-text.ensures.items in
     written ∙ sym (text_refused c.args.width a c.args.pixels.now (ap accepted c.in-Err.is))
 
-pub returns-in-ok-write-shown : goal.returns-in-ok-write-shown
-returns-in-ok-write-shown c =
+pub returns-in_ok-write_shown : goal.returns-in_ok-write_shown
+returns-in_ok-write_shown c =
     let a = c.args.answer.now in
     let shown = shown_text c.args.width c.args.pixels.now in
-    let written : vec_items c.write-answer.new.out ≡ answer_line a = c.in-ok-write-answer.ensures ∙ ap (λ v. v ++ answer_line a) c.new-text.ensures.items in
-    c.in-ok-write-shown.ensures ∙ ap (λ v. v ++ shown) written ∙ sym (text_shown c.args.width a c.args.pixels.now (ap accepted c.in-Ok.is))
+    let written : vec_items c.write_answer.new.out ≡ answer_line a = c.in_ok-write_answer.ensures ∙ ap (λ v. v ++ answer_line a) c.new-text.ensures.items in
+    c.in_ok-write_shown.ensures ∙ ap (λ v. v ++ shown) written ∙ sym (text_shown c.args.width a c.args.pixels.now (ap accepted c.in-Ok.is))

@@ -17,17 +17,17 @@ returns c =
     let scene = c.args.scene.now in
     let shows = show_answer true scene (length m) in
     let new = c.new-composer.ensures in
-    let count = c.frame-length-count.result in
-    let long : length c.as-mut-slice.result.now ≡ frame_length w h = ap length (c.as-mut-slice.ensures.value ∙ c.in-ok-frame.ensures) ∙ length-replicate count 0 ∙ c.frame-length-count.ensures in
+    let count = c.frame_length-count.result in
+    let long : length c.as_mut_slice.result.now ≡ frame_length w h = ap length (c.as_mut_slice.ensures.value ∙ c.in_ok-frame.ensures) ∙ length-replicate count 0 ∙ c.frame_length-count.ensures in
     let size : composer_size c.new-composer.result ≡ extent w h (frame_length w h) = rw (new.width, new.height, new.frame, long) in
-    let answer : c.show-on-answer.result ≡ then (cond (has_sides w h) _ _) shows = c.show-on-answer.ensures.answer ∙ ap (λ a. then a shows) (ap on_answer size ∙ on_length w h) in
+    let answer : c.show_on-answer.result ≡ then (cond (has_sides w h) _ _) shows = c.show_on-answer.ensures.answer ∙ ap (λ a. then a shows) (ap on_answer size ∙ on_length w h) in
     record {
       answer = answer;
       pixels = λ ok.
           let sides = accepted_sides (has_sides w h) shows (ap accepted (sym answer) ∙ ok) in
           let is = size ∙ extent_length w h sides in
-          let all : length c.as-mut-slice-2.result.now ≡ w * h = ap length (c.as-mut-slice-2.ensures.value ∙ c.in-ok-pixels.ensures) ∙ length-replicate count 0 ∙ c.frame-length-count.ensures ∙ cond-true (has_sides w h) (w * h) 0 sides in
-          with_items_is c.in-ok-pixels.pixels c.show-on-answer.new.pixels (c.show-on-answer.auto.pixels ∙ c.as-mut-slice-2.ensures.len)
-          ∙ c.show-on-answer.ensures.pixels ok (all ∙ ap (λ s. s.width * s.height) (sym is))
+          let all : length c.as_mut_slice-2.result.now ≡ w * h = ap length (c.as_mut_slice-2.ensures.value ∙ c.in_ok-pixels.ensures) ∙ length-replicate count 0 ∙ c.frame_length-count.ensures ∙ cond-true (has_sides w h) (w * h) 0 sides in
+          with_items_is c.in_ok-pixels.pixels c.show_on-answer.new.pixels (c.show_on-answer.auto.pixels ∙ c.as_mut_slice-2.ensures.len)
+          ∙ c.show_on-answer.ensures.pixels ok (all ∙ ap (λ s. s.width * s.height) (sym is))
           ∙ ap (λ s. raster s.width s.height (picture scene m)) is;
     }

@@ -8,5 +8,5 @@ pub returns : goal.returns
 unfolding shown_text
 returns c =
     let pixels = c.args.pixels.now in
-    then_appends c.write-rows.result (vec_items c.args.text.now) (glass_line pixels) (vec_items c.write-glass.new.out) (row_lines c.args.width pixels) (vec_items c.write-rows.new.out)
-    c.in-ok-write-glass.ensures c.write-rows.ensures
+    then_appends c.write_rows.result (vec_items c.args.text.now) (glass_line pixels) (vec_items c.write_glass.new.out) (row_lines c.args.width pixels) (vec_items c.write_rows.new.out)
+    c.in_ok-write_glass.ensures c.write_rows.ensures

@@ -8,8 +8,8 @@ use Rattle.draw.proofs.show.show_on.Goals as goal
 
 pub returns : goal.returns
 returns g c =
-    let shown = c.in-ok-first-frame.ensures in
-    let q = c.first-frame.new.p in
+    let shown = c.in_ok-first_frame.ensures in
+    let q = c.first_frame.new.p in
     let size = g.P.Presenter.extent c.args.p.now in
     let after = g.P.Presenter.extent q in
     let m = c.args.memory.now in
@@ -20,9 +20,9 @@ returns g c =
       answer = search rules;
       pixels = λ _ long.
           let fits : n ≡ after.width * after.height = long ∙ ap (λ s. s.width * s.height) (sym shown.size) in
-          let reads : c.read-glass.result ≡ true = c.read-glass.ensures.reads ∙ and_from (g.P.Presenter.lit q) (eqb n (after.width * after.height)) (shown.lights refl) (eq-eqb n (after.width * after.height) fits) in
-          c.read-glass.ensures.pixels
-          ∙ cond-true c.read-glass.result (raster after.width after.height glass) c.args.pixels.now reads
+          let reads : c.read_glass.result ≡ true = c.read_glass.ensures.reads ∙ and_from (g.P.Presenter.lit q) (eqb n (after.width * after.height)) (shown.lights refl) (eq-eqb n (after.width * after.height) fits) in
+          c.read_glass.ensures.pixels
+          ∙ cond-true c.read_glass.result (raster after.width after.height glass) c.args.pixels.now reads
           ∙ ap (λ s. raster s.width s.height glass) shown.size
           ∙ raster_same size.width size.height glass (picture scene m) (λ x y hx hy. shown.shows refl m (same_self m scene) x y hx hy);
     }

@@ -11,13 +11,13 @@ loop-i-preserved g c =
     let f = g.P.Presenter.glass c.args.p.now c.args.memory.now in
     let size = c.size-size.result in
     let i = c.loop-i.i in
-    let on : lit ≡ true = sym c.if-not-is-lit.ensures in
+    let on : lit ≡ true = sym c.if-not-is_lit.ensures in
     let within : i < length c.loop-i.pixels = omega arith in
     let placed : i < size.width * size.height = omega arith in
     below_more _ _
     (λ k h. let ne : k ≢ i = omega arith in rw get_or-set_other (c.loop-i.invariant k h))
-    (get_or-set_same c.loop-i.pixels i c.unwrap-or.result 0 within
-    ∙ c.unwrap-or.ensures
+    (get_or-set_same c.loop-i.pixels i c.unwrap_or.result 0 within
+    ∙ c.unwrap_or.ensures
     ∙ ap (λ o. unwrap_or o 0)
     (c.pixel.ensures ∙ ap (λ s. glass_pixel lit s f (i % size.width) (i / size.width)) (sym c.size-size.ensures.value) ∙ glass_place lit size f on i placed))
 

@@ -12,11 +12,11 @@ loop-row-preserved c x y hx hy =
     let fy : SFits w32 e.y = search rules in
     let across = simp to_z-of_z at c.clip-across.ensures in
     let down = simp to_z-of_z at c.clip-down.ensures in
-    row_drawn e c.args.memory.now c.span-row-from.result.now across down c.loop-row.row _ x y _ _ _ hx hy c.loop-row-test.true c.span-row-from.ensures.size c.span-row-from.ensures.pixels (c.loop-row.invariant x y hx hy) (c.put-row.ensures x y hx)
+    row_drawn e c.args.memory.now c.span_row-from.result.now across down c.loop-row.row _ x y _ _ _ hx hy c.loop-row-test.true c.span_row-from.ensures.size c.span_row-from.ensures.pixels (c.loop-row.invariant x y hx hy) (c.put_row.ensures x y hx)
 
-pub put-row-requires : goal.put-row-requires
-put-row-requires c =
-    (omega (arith, c.span-row-from.ensures.size), in_frame c.args.w c.args.h (c.clip-down.result.from + c.loop-row.row) _ (omega arith) (c.loop-row.auto.frame ∙ c.requires.0))
+pub put_row-requires : goal.put_row-requires
+put_row-requires c =
+    (omega (arith, c.span_row-from.ensures.size), in_frame c.args.w c.args.h (c.clip-down.result.from + c.loop-row.row) _ (omega arith) (c.loop-row.auto.frame ∙ c.requires.0))
 
 pub returns : goal.returns
 returns c x y hx hy =

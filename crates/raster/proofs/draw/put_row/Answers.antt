@@ -10,12 +10,12 @@ returns c i j h =
     let from = c.args.from.now in
     let start = c.args.y * c.args.w + c.args.x in
     let n = length from in
-    row_written c.args.w c.args.y c.args.x n (start + n - start) c.args.frame.now c.draw-row.new.to
+    row_written c.args.w c.args.y c.args.x n (start + n - start) c.args.frame.now c.draw_row.new.to
     (λ k d. laid c.args.e.now (get_or from k 0) d)
     (omega arith) c.requires.0 c.requires.1 (search (rules, places))
     (λ k l.
     let short : k < n = omega arith in
-    c.draw-row.ensures k (search (rules, places))
+    c.draw_row.ensures k (search (rules, places))
     ∙ cond-true (ltb k n) _ _ (lt-ltb k n short)
     ∙ ap (laid c.args.e.now (get_or from k 0)) (search (rules, places)))
     i j h

@@ -8,27 +8,27 @@ use Rattle.recording.proofs.choice.either_of.Goals as goal
 abbrev answered : Problem → Bool → Bool → Result Bool Problem
 answered problem is-first is-second = cond is-first (Ok true) (cond is-second (Ok false) (Err problem))
 
-pub returns-in-default : goal.returns-in-default
+pub returns-in_default : goal.returns-in_default
 unfolding either_word
-returns-in-default c =
-    ap (λ w. either_word c.args.first.now c.args.second.now c.args.problem (option_map (λ x. x.now) w)) (sym c.in-default.is)
+returns-in_default c =
+    ap (λ w. either_word c.args.first.now c.args.second.now c.args.problem (option_map (λ x. x.now) w)) (sym c.in_default.is)
 
-pub returns-then-is-text : goal.returns-then-is-text
+pub returns-then-is_text : goal.returns-then-is_text
 unfolding either_word
-returns-then-is-text c =
-    ap (λ t. answered c.args.problem t (bytes_eq c.in-Some.word.now c.args.second.now)) c.if-is-text.ensures
+returns-then-is_text c =
+    ap (λ t. answered c.args.problem t (bytes_eq c.in-Some.word.now c.args.second.now)) c.if-is_text.ensures
     ∙ ap (λ w. either_word c.args.first.now c.args.second.now c.args.problem (option_map (λ x. x.now) w)) (sym c.in-Some.is)
 
-pub returns-then-is-text-2 : goal.returns-then-is-text-2
+pub returns-then-is_text-2 : goal.returns-then-is_text-2
 unfolding either_word
-returns-then-is-text-2 c =
-    ap (answered c.args.problem false) c.if-is-text-2.ensures
-    ∙ ap (λ t. answered c.args.problem t (bytes_eq c.in-Some.word.now c.args.second.now)) c.if-is-text.ensures
+returns-then-is_text-2 c =
+    ap (answered c.args.problem false) c.if-is_text-2.ensures
+    ∙ ap (λ t. answered c.args.problem t (bytes_eq c.in-Some.word.now c.args.second.now)) c.if-is_text.ensures
     ∙ ap (λ w. either_word c.args.first.now c.args.second.now c.args.problem (option_map (λ x. x.now) w)) (sym c.in-Some.is)
 
-pub returns-else-is-text-2 : goal.returns-else-is-text-2
+pub returns-else-is_text-2 : goal.returns-else-is_text-2
 unfolding either_word
-returns-else-is-text-2 c =
-    ap (answered c.args.problem false) c.if-is-text-2.ensures
-    ∙ ap (λ t. answered c.args.problem t (bytes_eq c.in-Some.word.now c.args.second.now)) c.if-is-text.ensures
+returns-else-is_text-2 c =
+    ap (answered c.args.problem false) c.if-is_text-2.ensures
+    ∙ ap (λ t. answered c.args.problem t (bytes_eq c.in-Some.word.now c.args.second.now)) c.if-is_text.ensures
     ∙ ap (λ w. either_word c.args.first.now c.args.second.now c.args.problem (option_map (λ x. x.now) w)) (sym c.in-Some.is)

@@ -18,10 +18,10 @@ module _ (high low a b : ℕ) (first : a ≡ digit high) (second : b ≡ digit l
 
 pub returns-then-second-lt16 : goal.returns-then-second-lt16
 returns-then-second-lt16 c =
-    sym (both_digits c.digit-value-first.result c.digit-value-second.result c.if-first-lt16.true c.if-second-lt16.true)
-    ∙ digits_of c.args.high c.args.low _ _ c.digit-value-first.ensures.value c.digit-value-second.ensures.value
+    sym (both_digits c.digit_value-first.result c.digit_value-second.result c.if-first-lt16.true c.if-second-lt16.true)
+    ∙ digits_of c.args.high c.args.low _ _ c.digit_value-first.ensures.value c.digit_value-second.ensures.value
 
 pub returns-else-first-lt16 : goal.returns-else-first-lt16
 returns-else-first-lt16 c =
-    sym (no_digit c.digit-value-first.result c.digit-value-second.result c.else-first-lt16.either)
-    ∙ digits_of c.args.high c.args.low _ _ c.digit-value-first.ensures.value c.digit-value-second.ensures.value
+    sym (no_digit c.digit_value-first.result c.digit_value-second.result c.else-first-lt16.either)
+    ∙ digits_of c.args.high c.args.low _ _ c.digit_value-first.ensures.value c.digit_value-second.ensures.value

@@ -14,8 +14,8 @@ pub loop-item-preserved : goal.loop-item-preserved
 loop-item-preserved c =
     let items = c.args.items.now in
     let more = flat_map_more element_of [] (take c.loop-item.item-index items) (get_or items c.loop-item.item-index (Fill 0 0 0)) ∙ ap elements (sym (take_more items c.loop-item.item-index (Fill 0 0 0) c.loop-item-test.true)) in
-    subst (λ (es : List Element). Appended c.args.out.now c.push-element.new.out es) more
-    (appended_then c.args.out.now c.loop-item.out c.push-element.new.out _ _ c.loop-item.invariant c.push-element.ensures)
+    subst (λ (es : List Element). Appended c.args.out.now c.push_element.new.out es) more
+    (appended_then c.args.out.now c.loop-item.out c.push_element.new.out _ _ c.loop-item.invariant c.push_element.ensures)
 
 pub returns : goal.returns
 returns c =

@@ -14,10 +14,10 @@ returns c =
     let on = accepted (on_answer (composer_size s)) in
     record {
       lights = refl;
-      size = ap (extent s.width s.height) c.clear-frame.auto.frame;
-      black = λ _ x y hx hy. ap (λ ps. at s.width ps x y) c.clear-frame.ensures ∙ at_blackened s.width s.height frame x y hx hy;
+      size = ap (extent s.width s.height) c.clear_frame.auto.frame;
+      black = λ _ x y hx hy. ap (λ ps. at s.width ps x y) c.clear_frame.ensures ∙ at_blackened s.width s.height frame x y hx hy;
       left = λ ok dark.
           let accepts = ap accepted ok in
           let lights = and_from on (not s.lit) accepts (not_from_false s.lit dark) in
-          record { lender = refl; width = refl; height = refl; frame = c.clear-frame.ensures ∙ sym (cond-true (on && not s.lit) (blackened frame) frame lights); lit = sym (or_left on s.lit accepts) };
+          record { lender = refl; width = refl; height = refl; frame = c.clear_frame.ensures ∙ sym (cond-true (on && not s.lit) (blackened frame) frame lights); lit = sym (or_left on s.lit accepts) };
     }

@@ -13,13 +13,13 @@ returns c =
     let frame = s.frame.now in
     let scene = c.args.scene.now in
     let m = c.args.memory.now in
-    let ok = c.in-ok-check-show.ensures in
-    let drew = c.draw-frame.ensures in
+    let ok = c.in_ok-check_show.ensures in
+    let drew = c.draw_frame.ensures in
     record {
       answer = ok;
       refused = search rules;
       lights = λ _. show_lit s.lit scene (length m) ok;
       shows = λ _ _ _ x y hx hy. ap (λ ps. at s.width ps x y) drew ∙ at_painted s.width s.height frame x y hx hy scene m (show_sound s.lit scene (length m) ok);
-      size = ap (extent s.width s.height) c.draw-frame.auto.frame;
+      size = ap (extent s.width s.height) c.draw_frame.auto.frame;
       left = record { lender = refl; width = refl; height = refl; frame = drew ∙ sym (cond-true (accepted (show_answer s.lit scene (length m))) (painted s.width s.height frame scene m) frame (ap accepted (sym ok))); lit = refl };
     }
