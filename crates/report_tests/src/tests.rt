@@ -24,7 +24,10 @@ fn refusal_and_acceptance(rt: HostRuntime) -> Result<(), Fail> {
     };
     write_answer(&mut out, &Err(fault))?;
     write_answer(&mut out, &Ok(()))?;
-    assert_eq!(rt; out.as_slice(), b"answer 18 9 4294967295\nanswer 0 0 0\n");
+    assert_eq!(rt;
+        out.as_slice(),
+        b"answer 18 9 4294967295\nanswer 0 0 0\n".as_slice()
+    );
     Ok(())
 }
 
@@ -32,7 +35,7 @@ fn refusal_and_acceptance(rt: HostRuntime) -> Result<(), Fail> {
 fn line_of_the_crc(rt: HostRuntime) -> Result<(), Fail> {
     let mut out = Vec::new(rt.alloc());
     write_glass(&mut out, &[0x3433_3231, 0x3837_3635])?;
-    assert_eq!(rt; out.as_slice(), b"glass 9ae0daaf\n");
+    assert_eq!(rt; out.as_slice(), b"glass 9ae0daaf\n".as_slice());
     Ok(())
 }
 
@@ -40,7 +43,10 @@ fn line_of_the_crc(rt: HostRuntime) -> Result<(), Fail> {
 fn two_rows(rt: HostRuntime) -> Result<(), Fail> {
     let mut out = Vec::new(rt.alloc());
     write_rows(&mut out, &[0xff00_0000, 1, 0x0123_4567, 0x89ab_cdef], 2)?;
-    assert_eq!(rt; out.as_slice(), b"ff000000 00000001\n01234567 89abcdef\n");
+    assert_eq!(rt;
+        out.as_slice(),
+        b"ff000000 00000001\n01234567 89abcdef\n".as_slice()
+    );
     Ok(())
 }
 
@@ -49,7 +55,7 @@ fn short_last_row_and_no_width(rt: HostRuntime) -> Result<(), Fail> {
     let mut out = Vec::new(rt.alloc());
     write_rows(&mut out, &[1, 2, 3], 2)?;
     write_rows(&mut out, &[1, 2, 3], 0)?;
-    assert_eq!(rt; out.as_slice(), b"00000001 00000002\n00000003\n");
+    assert_eq!(rt; out.as_slice(), b"00000001 00000002\n00000003\n".as_slice());
     Ok(())
 }
 
@@ -61,6 +67,6 @@ fn one_by_two(rt: HostRuntime) -> Result<(), Fail> {
         height: 2,
     };
     write_ppm(&mut out, size, &[0xff41_4243, 0x0061_6263])?;
-    assert_eq!(rt; out.as_slice(), b"P6\n1 2\n255\nABCabc");
+    assert_eq!(rt; out.as_slice(), b"P6\n1 2\n255\nABCabc".as_slice());
     Ok(())
 }

@@ -11,9 +11,9 @@ returns-in-Err c =
     let written : vec_items c.write_answer.new.out ≡ answer_line a = c.in_ok-write_answer.ensures ∙ ap (λ v. v ++ answer_line a) c.new-text.ensures.items in
     written ∙ sym (text_refused c.args.width a c.args.pixels.now (ap accepted c.in-Err.is))
 
-pub returns-in_ok-write_shown : goal.returns-in_ok-write_shown
-returns-in_ok-write_shown c =
+pub returns-in_ok-write_shown-in-Ok : goal.returns-in_ok-write_shown-in-Ok
+returns-in_ok-write_shown-in-Ok c =
     let a = c.args.answer.now in
     let shown = shown_text c.args.width c.args.pixels.now in
     let written : vec_items c.write_answer.new.out ≡ answer_line a = c.in_ok-write_answer.ensures ∙ ap (λ v. v ++ answer_line a) c.new-text.ensures.items in
-    c.in_ok-write_shown.ensures ∙ ap (λ v. v ++ shown) written ∙ sym (text_shown c.args.width a c.args.pixels.now (ap accepted c.in-Ok.is))
+    c.in_ok-write_shown-in-Ok.ensures ∙ ap (λ v. v ++ shown) written ∙ sym (text_shown c.args.width a c.args.pixels.now (ap accepted c.in-Ok.is))
