@@ -1,5 +1,5 @@
 -- A composer and its frame memory after an act.
-use Rattle.std.specs.Prelude.{◌≡◌, ℕ, Bool, true, false, cond, not, ◌&&◌, ◌||◌, List, length, replicate, Ok}
+use Rattle.std.specs.Prelude.{◌≡◌, ℕ, Bool, true, false, cond, not, ◌&&◌, ◌||◌, List, length, Ok}
 use Rattle.model.specs.declared.element.Element.{Element}
 use Rattle.model.specs.declared.size.Size.{Size}
 use Rattle.model.specs.Output.{Answer, accepted, output_fault, on_answer, show_answer, showable, then}

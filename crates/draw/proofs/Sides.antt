@@ -1,8 +1,8 @@
 -- The size of an output over a frame memory of the length for its sides.
-use Rattle.std.proofs.Common.{◌≡◌, ℕ, ◌*◌, Bool, true, false, cond, Ok, Err, refl, ap, ◌∙◌, ⊎_elim, arith}
-use Rattle.std.proofs.lemmas.Bool.{cases_Bool, cond-true, cond-false, both_ways}
+use Rattle.std.proofs.Common.{◌≡◌, ℕ, Bool, true, false, cond, Ok, refl, ap, ◌∙◌}
+use Rattle.std.proofs.lemmas.Bool.{both_ways}
 use Rattle.model.specs.Output.{Answer, accepted, output_fault, on_answer, then}
-use Rattle.raster.specs.Frame.{has_sides, fits, frame_length, extent}
+use Rattle.raster.specs.Frame.{has_sides, frame_length, extent}
 use Rattle.raster.proofs.Frames.{fits_length, on_fits, extent_fits, sides}
 
 -- what switching on is answered

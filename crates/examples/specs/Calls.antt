@@ -1,10 +1,10 @@
 -- Calls as a client writes them, and runs of them.
-use Rattle.std.specs.Prelude.{ℕ, ◌+◌, ◌*◌, ◌/◌, ◌%◌, Bool, true, false, List, [], ◌∷◌, ◌++◌, length, ℤ, pos, Ok, Err, Result}
+use Rattle.std.specs.Prelude.{ℕ, ◌+◌, ◌*◌, ◌/◌, ◌%◌, true, List, [], ◌∷◌, length, pos, Ok, Err, Result}
 use Rattle.model.specs.declared.element.Element.{Element}
 use Rattle.model.specs.declared.event.Event.{Event}
 use Rattle.model.specs.declared.fault.Fault.{Fault}
 use Rattle.rules.specs.State.{Model, empty}
-use Rattle.rules.specs.Call.{Call, request_call, buffer_call, root_call, paint_call, switch_call, frame_call, Outcome, rule}
+use Rattle.rules.specs.Call.{Call, request_call, buffer_call, root_call, switch_call, frame_call, rule}
 
 -- a message's bytes, from its words
 abbrev pub bytes : List ℕ → List ℕ

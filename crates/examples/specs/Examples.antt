@@ -1,10 +1,10 @@
 -- What the rules say of some runs of calls, each from a new core.
-use Rattle.std.specs.Prelude.{◌≡◌, ℕ, Bool, true, false, List, [], ◌∷◌, ◌++◌}
+use Rattle.std.specs.Prelude.{◌≡◌, true, List, [], ◌∷◌, ◌++◌}
 use Rattle.model.specs.Pixel.{blended}
 use Rattle.rules.specs.Call.{Call, after}
-use Rattle.rules.specs.Hold.{busy, holds}
+use Rattle.rules.specs.Hold.{busy}
 use Rattle.rules.specs.Walk.{scene}
-use Rattle.examples.specs.Calls.{ask, create_surface, get_subsurface, attach, ask_frame, commit, set_position, set_desync, make_buffer, root, switch_on, frame, show, new_core, told, quiet, refused, releases, answers, element}
+use Rattle.examples.specs.Calls.{create_surface, get_subsurface, ask_frame, commit, set_position, set_desync, make_buffer, root, switch_on, frame, show, new_core, told, quiet, refused, releases, answers, element}
 
 -- a root 10 with buffer 4, and its child 11 by the sub-surface object 12; the parent has committed since
 abbrev pub family : List Call

@@ -4,7 +4,7 @@ use lib.Seq.{sets, sets-eq, length-sets}
 use Rattle.std.proofs.lemmas.List.{set_past}
 use Rattle.std.proofs.lemmas.Bool.{cases_lt}
 use Rattle.list.specs.declared.appender.Appender.{Appender}
-use Rattle.list.specs.Appended.{Appended, room}
+use Rattle.list.specs.Appended.{Appended}
 use Rattle.list.specs.Written.{written}
 
 module _ {T : Type 0} where

@@ -1,5 +1,5 @@
 -- A request that an opcode and arguments make is, in numbers, what was asked.
-use Rattle.std.proofs.Common.{◌≡◌, ℕ, ◌^◌, ◌<◌, Bool, true, false, cond, eqb, List, [], ◌∷◌, map, length, get_or, Ok, Err, Result, sym, refl, ap, ◌∙◌, ⊎_elim}
+use Rattle.std.proofs.Common.{◌≡◌, ℕ, ◌^◌, ◌<◌, true, false, cond, eqb, List, map, length, get_or, Ok, Result, sym, refl, ap, ◌∙◌, ⊎_elim}
 use Rattle.std.specs.List.{range_with_len}
 use Rattle.std.proofs.lemmas.List.FromFn.{fill_by_all}
 use Rattle.std.proofs.lemmas.Bool.{cases_Bool, eqb-true}
@@ -7,9 +7,8 @@ use Rattle.model.specs.declared.fault.Fault.{Fault}
 use Rattle.model.specs.declared.interface.Interface.{Interface}
 use Rattle.model.specs.declared.interface.Interface.TheVariants.{Display, Compositor, Subcompositor, Surface, Subsurface, Buffer, Callback}
 use Rattle.model.specs.declared.request.Request.{Request}
-use Rattle.model.specs.declared.request.Request.TheVariants.{CreateSurface, GetSubsurface, SurfaceDestroy, Attach, Damage, Frame, Commit, SubsurfaceDestroy, SetPosition, PlaceAbove, PlaceBelow, SetSync, SetDesync, BufferDestroy}
 use Rattle.model.specs.Word.{int_word}
-use Rattle.model.specs.Request.{exactly, fitting, id_at, int_at, compositor_request, subcompositor_request, surface_request, subsurface_request, buffer_request, request_of}
+use Rattle.model.specs.Request.{exactly, fitting, int_at, compositor_request, subcompositor_request, surface_request, subsurface_request, buffer_request, request_of}
 use Rattle.model.specs.Asked.{NumberedRequest, numbered, numbers, in_numbers, asked}
 use Rattle.model.proofs.Words.{int_word_int}
 

@@ -4,7 +4,7 @@ use Rattle.model.specs.declared.fault.Fault.{Fault}
 use Rattle.rules.specs.State.{Model}
 use Rattle.rules.specs.Run.{start}
 use Rattle.rules.specs.Station.{◌>>=◌}
-use Rattle.rules.specs.Call.{Step, Call, request_call, buffer_call, root_call, paint_call, switch_call, frame_call, paintable, painted, painted_by, outcome, step, rule}
+use Rattle.rules.specs.Call.{Step, Call, request_call, buffer_call, root_call, paint_call, switch_call, frame_call, paintable, painted_by, outcome, step}
 use Rattle.rules.specs.Refusal.{AltersNothing, Refusals}
 
 accepted_refused : {A : Type 0} (a : A) (f : Fault) → ◌≡◌ {A = Result A Fault} (Ok a) (Err f) → ⊥

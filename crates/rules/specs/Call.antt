@@ -1,5 +1,5 @@
 -- The six calls: what each answers, which events it sends, and what the core knows then.
-use Rattle.std.specs.Prelude.{ℕ, ◌+◌, ◌*◌, Bool, true, false, cond, not, ◌&&◌, ◌||◌, List, [], ◌∷◌, ◌++◌, length, take, drop, ℤ, Some, None, Ok, Err, fold, filter, Option, Result, ◌==◌, nat_eq, nat_le, nat_lt}
+use Rattle.std.specs.Prelude.{ℕ, ◌+◌, ◌*◌, Bool, true, false, cond, not, ◌&&◌, ◌||◌, List, [], ◌∷◌, ◌++◌, length, take, drop, ℤ, Ok, Err, fold, filter, Option, Result, ◌==◌, nat_eq, nat_le, nat_lt}
 use Rattle.list.specs.Place.{place, any}
 use Rattle.model.specs.declared.element.Element.{Element}
 use Rattle.model.specs.declared.event.Event.{Event}

@@ -1,5 +1,5 @@
 -- Callbacks: how they go from stage to stage, and how they end unanswered.
-use Rattle.std.specs.Prelude.{ℕ, Bool, true, false, cond, not, ◌&&◌, List, map, fold, filter, ◌==◌}
+use Rattle.std.specs.Prelude.{ℕ, Bool, true, false, cond, not, ◌&&◌, map, fold, filter, ◌==◌}
 use Rattle.rules.specs.declared.callback.Callback.{Callback}
 use Rattle.rules.specs.declared.stage.Stage.{Stage}
 use Rattle.rules.specs.declared.stage.Stage.TheVariants.{Pending, Cached, Current}

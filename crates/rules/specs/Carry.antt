@@ -1,5 +1,5 @@
 -- Requests carried out: stations 5 to 7, and what is done.
-use Rattle.std.specs.Prelude.{ℕ, Bool, true, false, cond, not, ◌&&◌, ◌||◌, eqb, List, [], ◌∷◌, ◌++◌, length, ℤ, pos, negsuc, is_some, Some, None, Ok, Err, Option, Result, ◌==◌, int_le, nat_le}
+use Rattle.std.specs.Prelude.{ℕ, Bool, true, false, cond, not, ◌&&◌, ◌||◌, eqb, List, [], ◌∷◌, ◌++◌, length, ℤ, pos, negsuc, is_some, Some, None, Ok, Option, Result, ◌==◌, int_le, nat_le}
 use Rattle.list.specs.Place.{place, any}
 use Rattle.model.specs.declared.fault.Fault.{Fault}
 use Rattle.model.specs.Fault.{fault}

@@ -1,10 +1,9 @@
 -- Holds: how they end, and when a buffer is busy.
-use Rattle.std.specs.Prelude.{ℕ, ◌+◌, Bool, false, cond, not, ◌&&◌, ◌||◌, List, [], Some, None, fold, sum_by, Option, ◌==◌}
-use Rattle.list.specs.Place.{any}
+use Rattle.std.specs.Prelude.{ℕ, ◌+◌, Bool, cond, not, ◌&&◌, [], Some, None, fold, sum_by, Option, ◌==◌}
 use Rattle.rules.specs.declared.attach.Attach.{Attach}
 use Rattle.rules.specs.declared.attach.Attach.TheVariants.{Nothing, Null, Buffer as Held}
 use Rattle.rules.specs.declared.buffer.Buffer.{Buffer}
-use Rattle.rules.specs.State.{Model, Surface, Waiting, no_buffer, buffer_at}
+use Rattle.rules.specs.State.{Model, no_buffer, buffer_at}
 use Rattle.rules.specs.Setters.{with_waiting, with_buffers}
 use Rattle.rules.specs.Run.{Grow, Run, in_model, send, release}
 use Rattle.rules.specs.Table.{each}

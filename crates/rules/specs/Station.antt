@@ -1,5 +1,5 @@
 -- Checks in their order: the first fault stands.
-use Rattle.std.specs.Prelude.{ℕ, Bool, cond, Some, None, Ok, Err, Option, Result}
+use Rattle.std.specs.Prelude.{Bool, cond, Some, None, Ok, Err, Option, Result}
 use Rattle.model.specs.declared.fault.Fault.{Fault}
 
 infixl 20 ◌>>=◌

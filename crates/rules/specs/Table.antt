@@ -1,5 +1,5 @@
 -- Lists of numbered places.
-use Rattle.std.specs.Prelude.{ℕ, suc, Bool, not, List, [], ◌∷◌, filter, ◌==◌}
+use Rattle.std.specs.Prelude.{ℕ, suc, not, List, [], ◌∷◌, filter, ◌==◌}
 
 -- each element changed, by its place, where the first has place i
 abbrev pub each_from : {A : Type 0} → (ℕ → A → A) → ℕ → List A → List A

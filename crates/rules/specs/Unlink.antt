@@ -1,7 +1,6 @@
 -- Unlink, and the end of a surface.
-use Rattle.std.specs.Prelude.{ℕ, Bool, true, cond, List, Some, None, fold, Option, nat_eq}
+use Rattle.std.specs.Prelude.{ℕ, true, Some, None, fold, Option, nat_eq}
 use Rattle.rules.specs.declared.attach.Attach.TheVariants.{Nothing}
-use Rattle.rules.specs.declared.object.ObjectKind.{ObjectKind}
 use Rattle.rules.specs.declared.object.ObjectKind.TheVariants.{Subsurface}
 use Rattle.rules.specs.declared.stage.Stage.TheVariants.{Cached}
 use Rattle.rules.specs.State.{Model, no_surface, object_at}

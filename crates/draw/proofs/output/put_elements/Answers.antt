@@ -1,4 +1,4 @@
-use Rattle.std.proofs.Common.{◌≡◌, ◌≤◌, length, sym, ap, ◌∙◌, arith, rules}
+use Rattle.std.proofs.Common.{◌≤◌, length, arith, rules}
 use Rattle.list.proofs.Laws.{appended_all}
 use Rattle.scene.specs.Items.{elements}
 use Rattle.draw.proofs.Counts.{few_elements}

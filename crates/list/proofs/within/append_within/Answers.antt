@@ -1,4 +1,4 @@
-use Rattle.std.proofs.Common.{◌≡◌, take, ap, ◌∙◌, arith}
+use Rattle.std.proofs.Common.{take, ap, ◌∙◌, arith}
 use Rattle.list.proofs.Bounds.{filled_within}
 use Rattle.list.proofs.within.append_within.Goals as goal
 

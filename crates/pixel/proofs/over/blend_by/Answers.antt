@@ -1,4 +1,4 @@
-use Rattle.std.proofs.Common.{◌∙◌, rules}
+use Rattle.std.proofs.Common.{◌∙◌}
 use Rattle.pixel.proofs.Packing.{packed, low_byte}
 use Rattle.model.specs.Pixel.{blended_by}
 use Rattle.pixel.proofs.over.blend_by.Goals as goal

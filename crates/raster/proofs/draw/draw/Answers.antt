@@ -1,6 +1,5 @@
-use Rattle.std.proofs.Common.{◌≡◌, ◌+◌, cond, ◌&&◌, sym, ap, ◌∙◌, arith, w32, SFits, rules}
+use Rattle.std.proofs.Common.{◌≡◌, ◌+◌, ◌∙◌, arith, w32, SFits, rules}
 use Rattle.std.proofs.lemmas.Int.{to_z-of_z}
-use Rattle.model.specs.Scene.{inside}
 use Rattle.raster.proofs.Drawing.{row_drawn}
 use Rattle.raster.proofs.Rows.{in_frame}
 use Rattle.raster.proofs.draw.draw.Goals as goal

@@ -1,4 +1,4 @@
-use Rattle.std.proofs.Common.{◌≡◌, ℕ, ◌+◌, ◌*◌, ◌<◌, cond, ◌&&◌, ltb, leb, get_or}
+use Rattle.std.proofs.Common.{◌≡◌, ◌+◌, cond, ◌&&◌, ltb, leb, get_or}
 use Rattle.model.specs.Scene.{inside, laid, source}
 use Rattle.raster.specs.Raster.{Everywhere, at}
 use Rattle.raster.proofs.draw.draw.Given as goal

@@ -1,4 +1,4 @@
-use Rattle.std.proofs.Common.{length, get_or, ap, ◌∙◌}
+use Rattle.std.proofs.Common.{ap, ◌∙◌}
 use Rattle.std.proofs.lemmas.List.{take_all}
 use Rattle.model.specs.Pixel.{black}
 use Rattle.model.specs.Scene.{picture}

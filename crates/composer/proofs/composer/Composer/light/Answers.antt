@@ -1,4 +1,4 @@
-use Rattle.std.proofs.Common.{◌≡◌, true, not, ◌&&◌, sym, refl, ap, ◌∙◌}
+use Rattle.std.proofs.Common.{not, ◌&&◌, sym, refl, ap, ◌∙◌}
 use Rattle.std.proofs.lemmas.Bool.{cond-true, and_from, not_from_false, or_left}
 use Rattle.model.specs.Output.{accepted, on_answer}
 use Rattle.composer.specs.Composer.{composer_size}
