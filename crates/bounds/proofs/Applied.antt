@@ -1,21 +1,21 @@
 -- Commit, apply and set_desync leave the tree as it is.
-use Rattle.std.proofs.Common.{◌≡◌, ℕ, zero, suc, ◌+◌, ◌≤◌, Bool, true, false, cond, ◌||◌, eqb, ◌⊎◌, List, [], ◌∷◌, length, get_or, set, Some, None, Option, sym, refl, ap, ◌∙◌, subst, inl, inr, arith, length-set}
+use Rattle.std.proofs.Common.{◌≡◌, ℕ, zero, suc, ◌+◌, ◌≤◌, Bool, true, false, cond, ◌||◌, eqb, List, [], ◌∷◌, length, Some, None, Option, refl, ap, inl, inr, arith, length-set}
 use Rattle.std.proofs.lemmas.List.{length_push}
 use Rattle.std.proofs.lemmas.Bool.{cond_both}
 use Rattle.rules.specs.declared.attach.Attach.{Attach}
 use Rattle.rules.specs.declared.attach.Attach.TheVariants.{Nothing, Null, Buffer as Held}
 use Rattle.rules.specs.declared.stage.Stage.TheVariants.{Pending, Cached, Current}
 use Rattle.model.specs.declared.event.Event.{Event}
-use Rattle.rules.specs.State.{Model, Surface, Waiting, no_surface, surface_at, buffer_at}
+use Rattle.rules.specs.State.{Surface, Waiting, no_surface, buffer_at}
 use Rattle.rules.specs.Setters.{with_attach, with_cached, with_hold, with_mark, with_order, with_position, with_sync, with_waiting}
-use Rattle.rules.specs.Run.{Run, plain, added, at, edit, send, release}
-use Rattle.rules.specs.Hold.{end_hold, end_cached, end_current, wait, held}
+use Rattle.rules.specs.Run.{plain, added, at, edit, send, release}
+use Rattle.rules.specs.Hold.{end_cached, end_current, held}
 use Rattle.rules.specs.Callback.{advance}
 use Rattle.rules.specs.Tree.{held_back}
 use Rattle.rules.specs.Apply.{replace, take_cached, restack, apply_self, settle, apply_place, apply_children, apply_in, apply_free, cache, take_pending, commit, desync}
-use Rattle.bounds.specs.Sound.{one, on_glass}
+use Rattle.bounds.specs.Sound.{one}
 use Rattle.bounds.proofs.Tables.{put_related, put_sum}
-use Rattle.bounds.proofs.Steps.{Plain, LinkedAlike, alike_same, cached_one, cached_most, mark_one, cache_one, spent, Keeps, keeps_same, keeps_then, edit_keeps, sent_keeps, advance_keeps}
+use Rattle.bounds.proofs.Steps.{Plain, LinkedAlike, alike_same, cached_one, cached_most, mark_one, cache_one, Keeps, keeps_same, keeps_then, edit_keeps, sent_keeps, advance_keeps}
 
 -- what a surface is once its cached attach has become current
 abbrev replacing : Surface → Surface

@@ -1,5 +1,5 @@
 -- A call in lists that have an end, as code carries it out, is the call of the rules; its events are written from the first place on.
-use Rattle.std.proofs.Common.{◌≡◌, ℕ, zero, suc, ◌+◌, ◌-◌, ◌<◌, ◌≤◌, min, Bool, true, false, cond, not, ◌&&◌, ◌||◌, eqb, leb, ◌≢◌, ◌⊎◌, List, [], ◌∷◌, ◌++◌, length, get_or, drop, set, ℤ, Some, None, Ok, Err, fold, filter, Option, Result, sym, refl, ap, ◌∙◌, subst, inl, inr, append_assoc, arith, length-append, length-drop, drop-cons}
+use Rattle.std.proofs.Common.{◌≡◌, ℕ, suc, ◌+◌, ◌<◌, ◌≤◌, Bool, true, false, not, ◌||◌, eqb, List, [], ◌∷◌, ◌++◌, length, get_or, drop, set, Some, None, Ok, Err, fold, filter, Option, Result, sym, refl, ap, ◌∙◌, append_assoc, arith, length-append, length-drop, drop-cons}
 use Rattle.std.proofs.lemmas.List.{set_at, append-nil, length_push}
 use Rattle.std.proofs.lemmas.Bool.{leb-false}
 use Rattle.list.specs.Place.{any}
@@ -7,27 +7,24 @@ use Rattle.list.specs.Written.{written}
 use Rattle.model.specs.declared.event.Event.{Event}
 use Rattle.model.specs.declared.fault.Fault.{Fault}
 use Rattle.rules.specs.declared.callback.Callback.{Callback}
-use Rattle.rules.specs.declared.object.ObjectKind.{ObjectKind}
 use Rattle.rules.specs.declared.stage.Stage.TheVariants.{Pending}
-use Rattle.rules.specs.State.{Model, Surface, most, no_surface, no_object, surface_at, buffer_at, object_at, object_place}
-use Rattle.rules.specs.Setters.{with_pending_order, with_object, with_callbacks, with_roots, with_on, with_surfaces, put_buffer, put_object}
-use Rattle.rules.specs.Run.{Run, plain, start, at, edit, in_model, send, done, delete_id}
+use Rattle.rules.specs.State.{Model, most, no_object, surface_at, buffer_at, object_at, object_place}
+use Rattle.rules.specs.Setters.{with_pending_order, with_callbacks, with_roots, with_on, with_surfaces, put_buffer, put_object}
+use Rattle.rules.specs.Run.{plain, start, edit, in_model, send, done, delete_id}
 use Rattle.rules.specs.Bounded.{Sheet, noted, bounded}
-use Rattle.rules.specs.Table.{each, without}
+use Rattle.rules.specs.Table.{each}
 use Rattle.rules.specs.Tree.{descends}
 use Rattle.rules.specs.Station.{◌>>=◌, refuse_if, or_refuse}
-use Rattle.rules.specs.Apply.{commit, desync}
-use Rattle.rules.specs.Unlink.{unlink, destroy}
 use Rattle.rules.specs.Ask.{Found, create_surface, get_subsurface, destroy_surface, attach, damage, ask_frame, commit_surface, destroy_subsurface, set_position, place_beside, set_sync, set_desync, destroy_buffer, linked}
-use Rattle.rules.specs.Carry.{free_surface, spoken_for, crowded, full_callbacks, in_range, is_zero, siblings, inserted, adopt, place_in, unless_inert, unlink_linked, forget_object, surface_of, end_subsurface, nameless, detached, end_buffer, carried}
+use Rattle.rules.specs.Carry.{free_surface, spoken_for, crowded, full_callbacks, in_range, is_zero, siblings, adopt, place_in, unless_inert, unlink_linked, forget_object, surface_of, end_subsurface, nameless, detached, end_buffer, carried}
 use Rattle.rules.specs.Walk.{Shown}
-use Rattle.rules.specs.Call.{raise, mark, go_dark, switched, is_current, answer_one, answer_current, after_showing}
+use Rattle.rules.specs.Call.{raise, mark, switched, is_current, answer_one, answer_current, after_showing}
 use Rattle.rules.specs.Hold.{end_waiting}
 use Rattle.bounds.specs.Sound.{Sound, Roots}
 use Rattle.bounds.proofs.Steps.{Plain}
 use Rattle.bounds.proofs.Links.{child_of, subsurface_object}
 use Rattle.bounds.proofs.Coded.{Coded, sheet, coded, pushed_fits, send_coded, end_waiting_coded, commit_coded, desync_coded, unlink_coded, destroy_coded}
-use Rattle.bounds.proofs.Fitting.{root_fits, child_fits, placed_fits}
+use Rattle.bounds.proofs.Fitting.{root_fits, child_fits}
 
 -- the events stand in the first places, and later places are as they were
 noted_next : (old pre : List Event) (e : Event) → length pre < length old
@@ -84,11 +81,10 @@ module _ (old : List Event) where
       let child = edit s (child_of k q) known in
       ap (λ (xs : List ℕ). coded old (edit q (with_pending_order xs) child)) (child_fits m client k s q e)
 
-  placed_coded : (m : Model) (over : Bool) (c by : ℕ) (o : Option ℕ) → (surface_at m c).parent ≡ o → Sound m → place_in bounded o over c by (coded old (start m)) ≡ coded_step old (place_in plain o over c by (start m))
-  placed_coded m over c by None e a = refl
-  placed_coded m over c by (Some q) e a =
-      unless_coded (not (any (eqb by) (siblings m q c))) _ _ _ λ _.
-      ap (λ (xs : List ℕ). Ok (coded old (edit q (with_pending_order xs) (start m)))) (placed_fits m over q c by a e)
+  placed_coded : (m : Model) (over : Bool) (c by : ℕ) (o : Option ℕ)
+      → place_in bounded o over c by (coded old (start m)) ≡ coded_step old (place_in plain o over c by (start m))
+  placed_coded m over c by None = refl
+  placed_coded m over c by (Some q) = unless_coded (not (any (eqb by) (siblings m q c))) _ _ _ (λ _. refl)
 
   called_coded : (m : Model) (client : ℕ) (k : Callback) → full_callbacks m client ≡ false
       → in_model (λ n. with_callbacks (bounded.asked n.callbacks k) n) (coded old (start m)) ≡ coded old (in_model (λ n. with_callbacks (plain.asked n.callbacks k) n) (start m))
@@ -139,7 +135,7 @@ module _ (old : List Event) where
       unless_coded (not (in_range x)) _ _ _ λ _.
       unless_coded (not (in_range y)) _ _ _ λ _.
       inert_coded o _ _ (start m) (λ _. refl)
-  carried_coded m (place_beside over o by) a = inert_coded o _ _ (start m) (λ p. placed_coded m over p by (surface_at m p).parent refl a)
+  carried_coded m (place_beside over o by) a = inert_coded o _ _ (start m) (λ p. placed_coded m over p by (surface_at m p).parent)
   carried_coded m (set_sync o) a = inert_coded o _ _ (start m) (λ _. refl)
   carried_coded m (set_desync o) a = inert_coded o _ _ (start m) (λ p. ap Ok (desync_coded old p (start m) a.glass))
   carried_coded m (destroy_buffer b) a = ap Ok (end_buffer_coded b (start m))

@@ -1,5 +1,5 @@
 -- Steps in lists that have an end, as code takes them: the same as in lists without one, while the holds on the glass have room.
-use Rattle.std.proofs.Common.{◌≡◌, ℕ, zero, suc, ◌+◌, ◌<◌, ◌≤◌, Bool, true, false, cond, not, ◌&&◌, ◌||◌, eqb, ◌≢◌, ◌⊎◌, List, [], ◌∷◌, ◌++◌, length, get_or, take, set, Some, None, fold, sum_by, filter, Option, sym, refl, ap, ◌∙◌, subst, inl, inr, arith}
+use Rattle.std.proofs.Common.{◌≡◌, ℕ, zero, suc, ◌<◌, ◌≤◌, Bool, true, false, cond, not, ◌||◌, eqb, List, [], ◌∷◌, ◌++◌, length, Some, None, fold, filter, Option, sym, refl, ap, ◌∙◌, arith}
 use Rattle.std.proofs.lemmas.List.{take_all, length_push}
 use Rattle.std.proofs.lemmas.List.Sums.{fold_push}
 use Rattle.model.specs.declared.event.Event.{Event}
@@ -8,7 +8,7 @@ use Rattle.rules.specs.declared.attach.Attach.{Attach}
 use Rattle.rules.specs.declared.attach.Attach.TheVariants.{Nothing, Null, Buffer as Held}
 use Rattle.rules.specs.declared.callback.Callback.{Callback}
 use Rattle.rules.specs.declared.stage.Stage.TheVariants.{Pending, Cached, Current}
-use Rattle.rules.specs.State.{Model, Surface, Waiting, most, no_surface, surface_at, buffer_at}
+use Rattle.rules.specs.State.{Waiting, most, no_surface, buffer_at}
 use Rattle.rules.specs.Setters.{with_attach, with_cached, with_hold, with_mark, with_sync, with_callbacks, with_waiting, with_parent, with_roots, put_surface}
 use Rattle.rules.specs.Run.{Run, plain, at, edit, in_model, send, release, delete_id}
 use Rattle.rules.specs.Bounded.{Sheet, noted, bounded}
@@ -16,7 +16,7 @@ use Rattle.rules.specs.Hold.{end_hold, end_cached, end_current, end_waiting, hel
 use Rattle.rules.specs.Callback.{advance, end_callbacks, stands}
 use Rattle.rules.specs.Tree.{held_back}
 use Rattle.rules.specs.Table.{without}
-use Rattle.rules.specs.Apply.{replace, take_cached, restack, apply_self, settle, apply_place, apply_children, apply_in, apply_free, cache, take_pending, commit, desync}
+use Rattle.rules.specs.Apply.{replace, take_cached, restack, apply_self, settle, apply_place, apply_children, apply_in, apply_free, take_pending, commit, desync}
 use Rattle.rules.specs.Unlink.{made_inert, leave, unlink_from, unlink, unlink_children, end_surface, destroy}
 use Rattle.bounds.specs.Sound.{one, on_glass}
 use Rattle.bounds.proofs.Tables.{put_sum}

@@ -1,32 +1,30 @@
 -- Requests that end a surface, a sub-surface object or a buffer.
-use Rattle.std.proofs.Common.{◌≡◌, ℕ, zero, suc, ◌+◌, ◌<◌, ◌≤◌, Bool, true, false, cond, not, eqb, ◌≢◌, ◌⊎◌, List, [], ◌∷◌, ◌++◌, length, get_or, set, Some, None, sum_by, Option, sym, refl, ap, ◌∙◌, subst, inl, inr, arith, get_or-set_other}
+use Rattle.std.proofs.Common.{◌≡◌, ℕ, ◌+◌, ◌<◌, ◌≤◌, Bool, true, false, not, eqb, List, length, get_or, set, Some, None, sum_by, Option, sym, refl, ap, ◌∙◌, subst, inl, inr, arith, get_or-set_other}
 use Rattle.std.proofs.ByRecursion.{all_kept_by}
 use Rattle.std.proofs.lemmas.List.{length_push}
 use Rattle.std.proofs.lemmas.Bool.{cases_eq, cond_both}
 use Rattle.model.specs.declared.event.Event.{Event}
-use Rattle.rules.specs.declared.attach.Attach.{Attach}
 use Rattle.rules.specs.declared.attach.Attach.TheVariants.{Null}
 use Rattle.rules.specs.declared.buffer.Buffer.{Buffer}
-use Rattle.rules.specs.declared.callback.Callback.{Callback}
 use Rattle.rules.specs.declared.object.Object.{Object}
 use Rattle.rules.specs.declared.object.ObjectKind.{ObjectKind}
 use Rattle.rules.specs.declared.object.ObjectKind.TheVariants.{Display, Compositor, Subcompositor, Subsurface}
-use Rattle.rules.specs.State.{Model, Surface, Waiting, most, no_surface, no_object, surface_at, buffer_at, object_at}
+use Rattle.rules.specs.State.{Model, Surface, most, no_surface, no_object, surface_at, buffer_at, object_at}
 use Rattle.rules.specs.Setters.{with_roots, with_object, with_attach, put_surface, put_object}
-use Rattle.rules.specs.Run.{Run, plain, start, at, edit, in_model, send, release, delete_id}
+use Rattle.rules.specs.Run.{plain, start, at, edit, in_model, send, release, delete_id}
 use Rattle.rules.specs.Hold.{end_current}
 use Rattle.rules.specs.Callback.{end_callbacks}
 use Rattle.rules.specs.Table.{each_from, without}
-use Rattle.rules.specs.Unlink.{made_inert, unlink, unlink_children, end_surface, destroy}
+use Rattle.rules.specs.Unlink.{made_inert, unlink, unlink_children, destroy}
 use Rattle.rules.specs.Ask.{linked, linked_by}
-use Rattle.rules.specs.Carry.{is_held, detached, nameless, surface_of, unlink_linked, forget_object, end_subsurface, end_buffer}
+use Rattle.rules.specs.Carry.{is_held, detached, surface_of, unlink_linked, forget_object, end_subsurface, end_buffer}
 use Rattle.bounds.specs.Forest.{parent_in}
-use Rattle.bounds.specs.Sound.{Sound, Tree, Spans, Roots, object_in, kind_in, one, on_glass}
-use Rattle.bounds.proofs.Tables.{put_sum, put_here, put_related, each_related, each_length, each_sum, sum_ones}
+use Rattle.bounds.specs.Sound.{Sound, Tree, Spans, Roots, kind_in, one, on_glass}
+use Rattle.bounds.proofs.Tables.{put_sum, put_here, each_related, each_length, each_sum, sum_ones}
 use Rattle.bounds.proofs.Pigeons.{once_kept}
 use Rattle.bounds.proofs.Steps.{Plain, mark_one, one_most, end_hold_model, end_callbacks_model, end_callbacks_events, LinkedAlike, alike_same}
-use Rattle.bounds.proofs.Trees.{some_none, some_same, id_in, tree_alike}
-use Rattle.bounds.proofs.Unlinked.{Ends, TreeOf, tree_same, owed, linked_in, ends_same, ends_then, end_callbacks_ends, unlink_ends, unlink_tree, unlink_gone, unlink_object, unlink_children_ends, unlink_children_tree}
+use Rattle.bounds.proofs.Trees.{some_none, some_same, tree_alike}
+use Rattle.bounds.proofs.Unlinked.{Ends, TreeOf, tree_same, linked_in, ends_same, ends_then, end_callbacks_ends, unlink_ends, unlink_tree, unlink_gone, unlink_object, unlink_children_ends, unlink_children_tree}
 use Rattle.bounds.proofs.Links.{tree_replaced, tree_forgotten, tree_object_gone}
 use Rattle.bounds.proofs.Spans.{spans_nameless}
 use Rattle.bounds.proofs.Kept.{Fine}

@@ -1,9 +1,9 @@
 -- A core that is kept sound, and the events of a call.
-use Rattle.std.proofs.Common.{◌≡◌, ℕ, zero, suc, ◌+◌, ◌<◌, ◌≤◌, Bool, true, false, cond, not, ◌≢◌, ◌⊎◌, List, [], ◌∷◌, ◌++◌, length, get_or, set, sym, refl, ap, ◌∙◌, subst, inl, inr, arith}
+use Rattle.std.proofs.Common.{ℕ, ◌≤◌, List, length, sym, subst, arith}
 use Rattle.rules.specs.declared.object.Object.{Object}
 use Rattle.rules.specs.declared.buffer.Buffer.{Buffer}
-use Rattle.rules.specs.State.{Model, Surface, most}
-use Rattle.rules.specs.Run.{Run, plain, start, at, edit}
+use Rattle.rules.specs.State.{Model, most}
+use Rattle.rules.specs.Run.{start}
 use Rattle.bounds.specs.Sound.{Sound, Tree, Spans, Roots}
 use Rattle.bounds.proofs.Tables.{sum_ones}
 use Rattle.bounds.proofs.Steps.{Plain, cached_most, cache_one, cached_in, Keeps}

@@ -1,5 +1,5 @@
 -- The tree as surfaces are made, adopted, placed and ended, and as sub-surface objects end.
-use Rattle.std.proofs.Common.{◌≡◌, ℕ, zero, suc, ◌+◌, ◌<◌, ◌≤◌, Bool, true, false, ◌≢◌, ◌⊎◌, List, [], ◌∷◌, ◌++◌, length, get_or, set, pos, Some, None, Option, sym, refl, ap, ◌∙◌, subst, inl, inr, true≢false, arith, length-set, get_or-set_other, get_or-set_same}
+use Rattle.std.proofs.Common.{◌≡◌, ℕ, ◌<◌, Bool, true, false, ◌≢◌, ◌⊎◌, List, [], ◌∷◌, ◌++◌, length, get_or, set, pos, Some, None, Option, sym, refl, ap, ◌∙◌, subst, inl, inr, true≢false, arith, length-set, get_or-set_other, get_or-set_same}
 use Rattle.std.proofs.lemmas.Bool.{cases_eq}
 use Rattle.rules.specs.declared.object.Object.{Object}
 use Rattle.rules.specs.declared.object.ObjectKind.{ObjectKind}
@@ -7,8 +7,7 @@ use Rattle.rules.specs.declared.object.ObjectKind.TheVariants.{Display, Subsurfa
 use Rattle.rules.specs.declared.role.Role.TheVariants.{Sub}
 use Rattle.rules.specs.State.{Surface, no_surface, no_object}
 use Rattle.rules.specs.Setters.{with_object, with_parent, with_role, with_sync, with_pending_position, with_pending_order}
-use Rattle.rules.specs.Carry.{new_surface}
-use Rattle.bounds.specs.Forest.{parent_in, Forest, Climb, stay}
+use Rattle.bounds.specs.Forest.{parent_in, Climb, stay}
 use Rattle.bounds.specs.Member.{Member, Once}
 use Rattle.bounds.specs.Sound.{Tree, pending_in, current_in, object_in, kind_in}
 use Rattle.bounds.proofs.Tables.{put_related, put_here, put_cases, added_member}

@@ -1,20 +1,19 @@
 -- Requests that make a surface, adopt one or place one in an order.
-use Rattle.std.proofs.Common.{◌≡◌, ℕ, zero, suc, ◌+◌, ◌<◌, ◌≤◌, Bool, true, false, cond, not, ◌&&◌, ◌||◌, eqb, ◌≢◌, ◌⊎◌, List, [], ◌∷◌, ◌++◌, length, get_or, set, is_some, Some, None, fold, Option, sym, refl, ap, ◌∙◌, subst, inl, inr, arith}
-use Rattle.std.proofs.lemmas.Bool.{eqb-true, or_parts, cond_both, true≢false}
-use Rattle.rules.specs.State.{Model, Surface, no_surface, surface_at, object_place}
-use Rattle.rules.specs.Run.{Run, plain, start, at, edit}
+use Rattle.std.proofs.Common.{◌≡◌, ℕ, Bool, true, false, cond, not, ◌||◌, eqb, ◌⊎◌, List, [], ◌∷◌, ◌++◌, get_or, is_some, Some, None, Option, sym, refl, ◌∙◌, subst, inl, inr, arith}
+use Rattle.std.proofs.lemmas.Bool.{eqb-true, or_parts, true≢false}
+use Rattle.rules.specs.State.{Model, no_surface, surface_at, object_place}
+use Rattle.rules.specs.Run.{plain, start, edit}
 use Rattle.rules.specs.Setters.{with_pending_order}
-use Rattle.rules.specs.Table.{without}
 use Rattle.rules.specs.Tree.{descends}
 use Rattle.rules.specs.Carry.{free_surface, new_surface, is_root, spoken_for, beside, inserted, siblings, adopt}
 use Rattle.bounds.specs.Forest.{parent_in}
 use Rattle.bounds.specs.Member.{Member, Once}
-use Rattle.bounds.specs.Sound.{Sound, Tree, object_in, on_glass}
-use Rattle.bounds.proofs.Tables.{put_sum, found_at, without_member, added_member}
+use Rattle.bounds.specs.Sound.{Sound, object_in}
+use Rattle.bounds.proofs.Tables.{put_sum, found_at, without_member, joined_member}
 use Rattle.bounds.proofs.Pigeons.{once_kept}
 use Rattle.bounds.proofs.Counted.{inserted_once}
 use Rattle.bounds.proofs.Forests.{apart}
-use Rattle.bounds.proofs.Steps.{Plain, mark_one}
+use Rattle.bounds.proofs.Steps.{mark_one}
 use Rattle.bounds.proofs.Trees.{some_none, id_in}
 use Rattle.bounds.proofs.Links.{tree_replaced, tree_adopted, tree_reordered, with_child, child_of}
 use Rattle.bounds.proofs.Stations.{FoundSurface}
@@ -71,36 +70,32 @@ adopted_fine m client id s q a fs fq e d =
     }
 
 -- place_above and place_below
-beside_member : (over : Bool) (c by : ℕ) (ps : List ℕ) (p x : ℕ) → Member x (beside plain over c by ps p) → Member x ps ⊎ ((x ≡ p) ⊎ (x ≡ c))
-beside_member over c by ps p x m =
-    let first = cond (eqb p by && not over) (ps ++ c ∷ []) ps in
-    let before : Member x first → Member x ps ⊎ (x ≡ c) =
-    cond_both (eqb p by && not over) (ps ++ c ∷ []) ps (λ (ys : List ℕ). Member x ys → Member x ps ⊎ (x ≡ c)) (λ _. added_member ps c x) (λ _ k. inl k) in
-    let itself : Member x (first ++ p ∷ []) → Member x ps ⊎ ((x ≡ p) ⊎ (x ≡ c)) =
-    λ k. elim (added_member first p x k) [ inl z ↦ elim (before z) [ inl y ↦ inl y | inr y ↦ inr (inr y) ] | inr z ↦ inr (inl z) ] in
-    cond_both (eqb p by && over) ((first ++ p ∷ []) ++ c ∷ []) (first ++ p ∷ []) (λ (ys : List ℕ). Member x ys → Member x ps ⊎ ((x ≡ p) ⊎ (x ≡ c)))
-    (λ _ k. elim (added_member (first ++ p ∷ []) c x k) [ inl z ↦ itself z | inr z ↦ inr (inr z) ]) (λ _. itself) m
+beside_member : (over : Bool) (c by p x : ℕ) → Member x (beside over c by p) → (x ≡ p) ⊎ (x ≡ c)
+beside_member over c by p x = go over (eqb p by)
+  where
+    go : (o b : Bool) → Member x (cond b (cond o (p ∷ c ∷ []) (c ∷ p ∷ [])) (p ∷ [])) → (x ≡ p) ⊎ (x ≡ c)
+    go true true m = elim m [ inl z ↦ inl z | inr z ↦ elim z [ inl y ↦ inr y | inr y ↦ absurd y ] ]
+    go true false m = elim m [ inl z ↦ inl z | inr z ↦ absurd z ]
+    go false true m = elim m [ inl z ↦ inr z | inr z ↦ elim z [ inl y ↦ inl y | inr y ↦ absurd y ] ]
+    go false false m = elim m [ inl z ↦ inl z | inr z ↦ absurd z ]
 
-pub inserted_member : (over : Bool) (c by : ℕ) (qs ps : List ℕ) (x : ℕ) → Member x (fold (beside plain over c by) qs ps) → Member x qs ⊎ (Member x ps ⊎ (x ≡ c))
-inserted_member over c by qs [] x m = inl m
-inserted_member over c by qs (p ∷ ps) x m =
-    elim (inserted_member over c by (beside plain over c by qs p) ps x m) [
-      | inl z ↦ elim (beside_member over c by qs p x z) [ inl y ↦ inl y | inr y ↦ elim y [ inl w ↦ inr (inl (inl w)) | inr w ↦ inr (inr w) ] ]
-      | inr z ↦ elim z [ inl y ↦ inr (inl (inr y)) | inr y ↦ inr (inr y) ]
+pub inserted_member : (over : Bool) (c by : ℕ) (ps : List ℕ) (x : ℕ) → Member x (inserted over c by ps) → Member x ps ⊎ (x ≡ c)
+inserted_member over c by [] x m = absurd m
+inserted_member over c by (p ∷ ps) x m =
+    elim (joined_member (beside over c by p) (inserted over c by ps) x m) [
+      | inl z ↦ elim (beside_member over c by p x z) [ inl y ↦ inl (inl y) | inr y ↦ inr y ]
+      | inr z ↦ elim (inserted_member over c by ps x z) [ inl y ↦ inl (inr y) | inr y ↦ inr y ]
     ]
 
 pub placed_fine : (m : Model) (over : Bool) (q c by : ℕ) → Sound m → (surface_at m c).parent ≡ Some q
-    → Fine (edit q (λ u. with_pending_order (inserted plain over c by (siblings m q c)) u) (start m))
+    → Fine (edit q (λ u. with_pending_order (inserted over c by (siblings m q c)) u) (start m))
 placed_fine m over q c by a e =
     let t = m.surfaces in
-    let xs = inserted plain over c by (siblings m q c) in
+    let xs = inserted over c by (siblings m q c) in
     let child : (x : ℕ) → Member x xs → (x ≡ q) ⊎ (parent_in t x ≡ Some q) =
-    λ x k. elim (inserted_member over c by [] (siblings m q c) x k) [
-      | inl z ↦ absurd z
-      | inr z ↦ elim z [
-        | inl y ↦ a.tree.orders.pending q x (without_member c (surface_at m q).pending.order x y).0
-        | inr y ↦ inr (subst (λ v. parent_in t v ≡ Some q) (sym y) e)
-      ]
+    λ x k. elim (inserted_member over c by (siblings m q c) x k) [
+      | inl y ↦ a.tree.orders.pending q x (without_member c (surface_at m q).pending.order x y).0
+      | inr y ↦ inr (subst (λ v. parent_in t v ≡ Some q) (sym y) e)
     ] in
     let there = (surface_at m q).pending.order in
     let once : Once xs =

@@ -1,14 +1,13 @@
 -- From a new core on, every core is sound.
-use Rattle.std.proofs.Common.{◌≡◌, ℕ, zero, suc, ◌+◌, ◌≤◌, Bool, ◌≢◌, ◌⊎◌, List, [], ◌∷◌, ◌++◌, length, get_or, replicate, Some, None, Option, sym, refl, ap, ◌∙◌, subst, inl, inr, arith}
+use Rattle.std.proofs.Common.{◌≡◌, ℕ, zero, suc, Bool, List, [], ◌∷◌, ◌++◌, get_or, replicate, Some, sym, refl, ap, ◌∙◌, subst, arith}
 use Rattle.rules.specs.declared.object.Object.{Object}
 use Rattle.rules.specs.declared.object.ObjectKind.{ObjectKind}
 use Rattle.rules.specs.declared.object.ObjectKind.TheVariants.{Display, Compositor, Subcompositor, Subsurface}
 use Rattle.rules.specs.State.{Model, Surface, most, no_surface, no_object, globals, empty}
 use Rattle.rules.specs.Call.{Call, rule, after}
-use Rattle.bounds.specs.Forest.{parent_in}
 use Rattle.bounds.specs.Member.{Member, Once}
-use Rattle.bounds.specs.Sound.{Sound, Orders, Tree, pending_in, current_in, object_in, kind_in}
-use Rattle.bounds.specs.Reached.{reached, EventsFit, SpansApart, SameOrders, DeepEnough, DepthSuffices}
+use Rattle.bounds.specs.Sound.{Sound, Orders, kind_in}
+use Rattle.bounds.specs.Reached.{reached, EventsFit, SpansApart, DeepEnough, DepthSuffices}
 use Rattle.bounds.proofs.Tables.{sum_ones, replicated}
 use Rattle.bounds.proofs.Forests.{empty_forest, held_back_enough, descends_enough}
 use Rattle.bounds.proofs.Spans.{no_spans}

@@ -1,5 +1,5 @@
 -- Every request keeps a core sound.
-use Rattle.std.proofs.Common.{◌≡◌, ℕ, ◌+◌, ◌<◌, ◌≤◌, Bool, true, false, cond, not, ◌||◌, eqb, leb, ◌≢◌, ◌⊎◌, List, [], ◌∷◌, ◌++◌, length, get_or, set, ℤ, Some, None, Ok, Err, Option, Result, sym, refl, ap, ◌∙◌, subst, inl, inr, arith}
+use Rattle.std.proofs.Common.{◌≡◌, ℕ, ◌≤◌, Bool, true, false, not, ◌||◌, eqb, List, length, ℤ, Some, None, Ok, Option, Result, refl, subst, inl, arith}
 use Rattle.std.proofs.lemmas.List.{length_push}
 use Rattle.std.proofs.lemmas.Bool.{leb-false}
 use Rattle.list.specs.Place.{any}
@@ -9,20 +9,19 @@ use Rattle.model.specs.declared.request.Request.TheVariants.{CreateSurface, GetS
 use Rattle.model.specs.Message.{header_of, body_of, header_answer}
 use Rattle.model.specs.Request.{request_of}
 use Rattle.model.specs.Word.{words}
-use Rattle.rules.specs.declared.attach.Attach.{Attach}
 use Rattle.rules.specs.declared.callback.Callback.{Callback}
 use Rattle.rules.specs.declared.stage.Stage.TheVariants.{Pending}
 use Rattle.rules.specs.State.{Model, Surface, surface_at}
 use Rattle.rules.specs.Setters.{with_attach, with_pending_position, with_sync, with_callbacks}
-use Rattle.rules.specs.Run.{Run, plain, start, at, edit, in_model}
+use Rattle.rules.specs.Run.{plain, start, edit, in_model}
 use Rattle.rules.specs.Apply.{commit, desync}
 use Rattle.rules.specs.Tree.{descends}
-use Rattle.rules.specs.Name.{named, interface_of, place_of, new_id, of-kind, as-surface, the_surface, the_buffer}
-use Rattle.rules.specs.Ask.{Found, create_surface, get_subsurface, destroy_surface, attach, damage, ask_frame, commit_surface, destroy_subsurface, set_position, place_beside, set_sync, set_desync, destroy_buffer, linked, the_attach, with_objects_found, enough_places, known_client, asked}
+use Rattle.rules.specs.Name.{named, interface_of, place_of, new_id, the_surface}
+use Rattle.rules.specs.Ask.{Found, create_surface, get_subsurface, destroy_surface, attach, damage, ask_frame, commit_surface, destroy_subsurface, set_position, place_beside, set_sync, set_desync, destroy_buffer, the_attach, with_objects_found, enough_places, known_client, asked}
 use Rattle.rules.specs.Carry.{free_surface, spoken_for, crowded, full_callbacks, in_range, is_zero, siblings, place_in, unless_inert, carried}
 use Rattle.rules.specs.Call.{request}
 use Rattle.bounds.specs.Sound.{Sound}
-use Rattle.bounds.proofs.Steps.{Plain, LinkedAlike, mark_one, cache_one, edit_keeps}
+use Rattle.bounds.proofs.Steps.{LinkedAlike, mark_one, cache_one, edit_keeps}
 use Rattle.bounds.proofs.Applied.{commit_keeps, desync_keeps}
 use Rattle.bounds.proofs.Stations.{Accepts, then, then_unless, then_found, FoundSurface, surface_named}
 use Rattle.bounds.proofs.Kept.{Fine, fine_keeps, unchanged_fine}
@@ -49,9 +48,9 @@ places_of : (m : Model) (client p : ℕ) (q : Request) → Accepts (Places m) (w
 places_of m client p (CreateSurface id) = then (Places m) (new_id m client 2 id) _ (λ _ _. tt)
 places_of m client p (GetSubsurface id s q) =
     then (Places m) (new_id m client 2 id) _ λ _ _.
-    then_found (Places m) (of-kind as-surface (named m client s)) _ _ λ a e.
-    then_found (Places m) (of-kind as-surface (named m client q)) _ _ λ b f.
-    (surface_named m client s a e, surface_named m client q b f)
+    then (Places m) (the_surface m client 3 s) _ λ a e.
+    then (Places m) (the_surface m client 4 q) _ λ b f.
+    (surface_named m client 3 s a e, surface_named m client 4 q b f)
 places_of m client p SurfaceDestroy = tt
 places_of m client p (AttachBuffer id x y) = then (Places m) (the_attach m client id) _ (λ _ _. tt)
 places_of m client p (Damage x y w h) = tt

@@ -1,27 +1,24 @@
 -- Every call keeps a core sound, and sends at most 160 events.
-use Rattle.std.proofs.Common.{◌≡◌, ℕ, ◌+◌, ◌*◌, ◌<◌, ◌≤◌, Bool, true, false, cond, not, ◌&&◌, eqb, ltb, ◌≢◌, ◌⊎◌, List, [], ◌∷◌, ◌++◌, length, get_or, set, replicate, ℤ, pos, Some, None, Ok, Err, fold, sum_by, filter, Option, Result, sym, refl, ap, ◌∙◌, subst, inl, inr, arith}
+use Rattle.std.proofs.Common.{◌≡◌, ℕ, ◌+◌, ◌*◌, ◌<◌, ◌≤◌, Bool, true, false, not, ◌&&◌, List, [], ◌∷◌, ◌++◌, length, ℤ, Ok, Err, fold, filter, sym, refl, ap, ◌∙◌, subst, inl, arith}
 use Rattle.std.proofs.ByRecursion.{All-push}
 use Rattle.std.proofs.lemmas.List.{length_push}
 use Rattle.std.proofs.lemmas.List.Sums.{length-filter, count_by-le-length}
 use Rattle.std.proofs.lemmas.Bool.{cond_both}
-use Rattle.model.specs.declared.event.Event.{Event}
-use Rattle.model.specs.declared.fault.Fault.{Fault}
 use Rattle.model.specs.declared.size.Size.{Size}
-use Rattle.model.specs.Buffer.{shaped}
 use Rattle.model.specs.Output.{show_answer}
 use Rattle.rules.specs.declared.buffer.Buffer.{Buffer}
 use Rattle.rules.specs.declared.callback.Callback.{Callback}
 use Rattle.rules.specs.declared.role.Role.TheVariants.{Root}
-use Rattle.rules.specs.State.{Model, Surface, most, no_surface, surface_at, buffer_at}
-use Rattle.rules.specs.Setters.{with_role, with_position, with_on, with_waiting, with_callbacks, with_surfaces, put_buffer}
-use Rattle.rules.specs.Run.{Run, plain, start, edit, in_model, done, delete_id}
-use Rattle.rules.specs.Hold.{busy, sweep, end_waiting}
+use Rattle.rules.specs.State.{Model, Surface, most, no_surface, surface_at}
+use Rattle.rules.specs.Setters.{with_role, with_position, with_waiting, with_callbacks, with_surfaces}
+use Rattle.rules.specs.Run.{plain, start, edit, done, delete_id}
+use Rattle.rules.specs.Hold.{sweep, end_waiting}
 use Rattle.rules.specs.Table.{each_from, without}
-use Rattle.rules.specs.Walk.{Shown, shown, scene, element-at}
-use Rattle.rules.specs.Name.{named, new_id, of-kind, as-surface, the_buffer}
+use Rattle.rules.specs.Walk.{Shown, shown, scene}
+use Rattle.rules.specs.Name.{new_id, the_surface}
 use Rattle.rules.specs.Ask.{enough_places, known_client}
 use Rattle.rules.specs.Carry.{in_range}
-use Rattle.rules.specs.Call.{Step, new-buffer, free_buffer, meets, placed-buffer, make_buffer, is_sub, raise, make_root, right_memory, paintable, paint, marked, mark, go_dark, switched, can_switch, switch, is_current, answer_one, answer_current, after_showing, frame, Outcome, outcome, Call, request_call, buffer_call, root_call, paint_call, switch_call, frame_call, step, rule}
+use Rattle.rules.specs.Call.{Step, buffer_shape, free_buffer, meets, make_buffer, is_sub, raise, make_root, right_memory, paintable, paint, marked, go_dark, switched, can_switch, switch, is_current, answer_one, answer_current, after_showing, frame, outcome, Call, request_call, buffer_call, root_call, paint_call, switch_call, frame_call, step, rule}
 use Rattle.bounds.specs.Sound.{Sound, Roots}
 use Rattle.bounds.proofs.Tables.{each_related, each_length, sum_ones, without_member}
 use Rattle.bounds.proofs.Pigeons.{once_added}
@@ -34,13 +31,16 @@ use Rattle.bounds.proofs.Kept.{Fine, fine_keeps, unchanged_fine}
 use Rattle.bounds.proofs.Requested.{request_fine}
 
 -- buffer
-buffer_fine : (client id : ℕ) (new : Buffer) (m : Model) → Sound m → Accepts Fine (placed-buffer client id new m)
-buffer_fine client id new m a =
+buffer_fine : (client id first width height stride format : ℕ) (m : Model) → Sound m
+    → Accepts Fine (make_buffer client id first width height stride format m)
+buffer_fine client id first width height stride format m a =
+    let new : Buffer =
+    record { used = true; client = client; id = id; first = first; width = width; height = height; stride = stride; format = format } in
     then Fine (known_client m client) _ λ _ _.
     then Fine (new_id m client 0 id) _ λ _ _.
-    then_unless Fine (not (shaped (element-at (pos 0) (pos 0) new))) _ _ λ _.
+    then_unless Fine (not (buffer_shape width height stride format)) _ _ λ _.
     then_found Fine (free_buffer m client) _ _ λ b _.
-    then_unless Fine (meets m client new) _ _ λ e.
+    then_unless Fine (meets m client first (stride * height)) _ _ λ e.
     record {
       sound = record { tree = a.tree; spans = spans_added m client b new a.spans e; glass = a.glass; roots = a.roots; callbacks = a.callbacks };
       events = omega arith;
@@ -68,10 +68,10 @@ rooted m p x y h a =
 root_fine : (client id : ℕ) (x y : ℤ) (m : Model) → Sound m → Accepts Fine (make_root client id x y m)
 root_fine client id x y m a =
     then Fine (known_client m client) _ λ _ _.
-    then_found Fine (of-kind as-surface (named m client id)) _ _ λ p e.
+    then Fine (the_surface m client 0 id) _ λ p e.
     then_unless Fine (not (in_range x && in_range y)) _ _ λ _.
     then_unless Fine (is_sub (surface_at m p).role) _ _ λ _.
-    rooted m p x y (omega (arith, (surface_named m client id p e).within, a.tree.orders.places)) a
+    rooted m p x y (omega (arith, (surface_named m client 0 id p e).within, a.tree.orders.places)) a
 
 paint_fine : (client id offset count memory : ℕ) (m : Model) → Sound m → Accepts Fine (paint client id offset count memory m)
 paint_fine client id offset count memory m a = then Fine (paintable client id offset count memory m) _ λ _ _. unchanged_fine m a
@@ -154,7 +154,7 @@ frame_fine on time memory places m a =
 
 step_fine : (c : Call) (m : Model) → Sound m → Accepts Fine (step c m)
 step_fine (request_call places client bytes) m a = request_fine places client bytes m a
-step_fine (buffer_call client id first width height stride format) m a = buffer_fine client id (new-buffer client id first width height stride format) m a
+step_fine (buffer_call client id first width height stride format) m a = buffer_fine client id first width height stride format m a
 step_fine (root_call client id x y) m a = root_fine client id x y m a
 step_fine (paint_call client id offset pixels memory) m a = paint_fine client id offset (length pixels) memory m a
 step_fine (switch_call on size places) m a = switch_fine m.on on size places m a

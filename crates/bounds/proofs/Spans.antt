@@ -1,19 +1,19 @@
 -- The spans of buffer records: what keeps them inside the pixel memory and apart.
-use Rattle.std.proofs.Common.{◌≡◌, ℕ, zero, suc, ◌+◌, ◌<◌, ◌≤◌, Bool, true, false, cond, not, ◌&&◌, ◌||◌, eqb, ltb, ◌≢◌, ◌⊎◌, List, [], ◌∷◌, length, get_or, set, replicate, sym, refl, ap, ◌∙◌, subst, inl, inr, true≢false, arith}
+use Rattle.std.proofs.Common.{◌≡◌, ℕ, zero, suc, ◌+◌, ◌≤◌, Bool, true, false, not, ◌&&◌, eqb, ltb, ◌≢◌, ◌⊎◌, List, [], ◌∷◌, get_or, set, replicate, sym, refl, ap, ◌∙◌, subst, inl, inr, true≢false, arith}
 use mathlib.Core.Bool.{false≢true}
-use Rattle.std.proofs.lemmas.Bool.{cases_eq, cond_both, or_parts, and_cases, ltb-false}
+use Rattle.std.proofs.lemmas.Bool.{cond_both, or_parts, and_cases, ltb-false}
 use Rattle.list.specs.Place.{any}
 use Rattle.rules.specs.declared.buffer.Buffer.{Buffer}
 use Rattle.rules.specs.State.{Model, no_buffer}
 use Rattle.rules.specs.Hold.{busy, kept, sweep}
 use Rattle.rules.specs.Carry.{nameless}
-use Rattle.rules.specs.Call.{buffer-span, overlap, meets}
-use Rattle.bounds.specs.Sound.{Spans}
+use Rattle.rules.specs.Call.{overlap, meets}
+use Rattle.bounds.specs.Sound.{buffer_span, Spans}
 use Rattle.bounds.proofs.Tables.{put_related, put_cases, each_related, replicated}
 
 -- a record that goes, or keeps its span
 abbrev pub Shrinks : Buffer → Buffer → Type 0
-Shrinks f g = (g.used ≡ false) ⊎ ((g.used ≡ f.used) × (g.first ≡ f.first) × (buffer-span g ≡ buffer-span f))
+Shrinks f g = (g.used ≡ false) ⊎ ((g.used ≡ f.used) × (g.first ≡ f.first) × (buffer_span g ≡ buffer_span f))
 
 shrinks_same : (f : Buffer) → Shrinks f f
 shrinks_same f = inr (refl, refl, refl)
@@ -23,7 +23,7 @@ module _ (size : ℕ) (bs cs : List Buffer) (h : (b : ℕ) → Shrinks (get_or b
   record Was (b : ℕ) : Type 0 where
     used : (get_or bs b no_buffer).used ≡ true
     first : (get_or cs b no_buffer).first ≡ (get_or bs b no_buffer).first
-    span : buffer-span (get_or cs b no_buffer) ≡ buffer-span (get_or bs b no_buffer)
+    span : buffer_span (get_or cs b no_buffer) ≡ buffer_span (get_or bs b no_buffer)
 
   was : (b : ℕ) → (get_or cs b no_buffer).used ≡ true → Was b
   was b e = elim (h b) [ inl z ↦ absurd (false≢true (sym z ∙ e)) | inr z ↦ record { used = sym z.0 ∙ e; first = z.1; span = z.2 } ]
@@ -58,39 +58,41 @@ any_none test d z (x ∷ xs) e zero = (or_parts (test x) (any test xs) e).0
 any_none test d z (x ∷ xs) e (suc k) = any_none test d z xs (or_parts (test x) (any test xs) e).1 k
 
 -- two spans that do not meet
-apart_from : (a b : Buffer) → b.used ≡ true → overlap a b ≡ false → (b.first + buffer-span b ≤ a.first) ⊎ (a.first + buffer-span a ≤ b.first)
+apart_from : (a b : Buffer) → b.used ≡ true → overlap a.first (buffer_span a) b ≡ false
+    → (b.first + buffer_span b ≤ a.first) ⊎ (a.first + buffer_span a ≤ b.first)
 apart_from a b u e =
-    let both = ltb a.first (b.first + buffer-span b) && ltb b.first (a.first + buffer-span a) in
+    let both = ltb a.first (b.first + buffer_span b) && ltb b.first (a.first + buffer_span a) in
     elim (and_cases b.used both e) [
       | inl z ↦ absurd (true≢false (sym u ∙ z))
-      | inr z ↦ elim (and_cases (ltb a.first (b.first + buffer-span b)) (ltb b.first (a.first + buffer-span a)) z) [
+      | inr z ↦ elim (and_cases (ltb a.first (b.first + buffer_span b)) (ltb b.first (a.first + buffer_span a)) z) [
         | inl y ↦ inl (ltb-false _ _ y)
         | inr y ↦ inr (ltb-false _ _ y)
       ]
     ]
 
 -- a new record, whose span meets none
-module _ (m : Model) (client b : ℕ) (new : Buffer) (a : Spans m.size m.buffers) (e : meets m client new ≡ false) where
-  within : new.first + buffer-span new ≤ m.size
-  within = ltb-false _ _ (or_parts (ltb m.size (new.first + buffer-span new)) (any (overlap new) m.buffers) e).0
+module _ (m : Model) (client b : ℕ) (new : Buffer) (a : Spans m.size m.buffers) (e : meets m client new.first (buffer_span new) ≡ false) where
+  within : new.first + buffer_span new ≤ m.size
+  within = ltb-false _ _ (or_parts (ltb m.size (new.first + buffer_span new)) (any (overlap new.first (buffer_span new)) m.buffers) e).0
 
   away : (x : ℕ) → (get_or m.buffers x no_buffer).used ≡ true
-      → ((get_or m.buffers x no_buffer).first + buffer-span (get_or m.buffers x no_buffer) ≤ new.first) ⊎ (new.first + buffer-span new ≤ (get_or m.buffers x no_buffer).first)
+      → ((get_or m.buffers x no_buffer).first + buffer_span (get_or m.buffers x no_buffer) ≤ new.first) ⊎ (new.first + buffer_span new ≤ (get_or m.buffers x no_buffer).first)
   away x u =
+      let test = overlap new.first (buffer_span new) in
       apart_from new (get_or m.buffers x no_buffer) u
-      (any_none (overlap new) no_buffer refl m.buffers (or_parts (ltb m.size (new.first + buffer-span new)) (any (overlap new) m.buffers) e).1 x)
+      (any_none test no_buffer refl m.buffers (or_parts (ltb m.size (new.first + buffer_span new)) (any test m.buffers) e).1 x)
 
   -- a place holds the new record, or what it held
   abbrev Now : ℕ → Buffer → Type 0
   Now x f = ((x ≡ b) × (f ≡ new)) ⊎ (f ≡ get_or m.buffers x no_buffer)
 
-  inside_added : (x : ℕ) (f : Buffer) → Now x f → f.used ≡ true → f.first + buffer-span f ≤ m.size
-  inside_added x f (inl z) u = subst (λ (v : Buffer). v.first + buffer-span v ≤ m.size) (sym z.1) within
+  inside_added : (x : ℕ) (f : Buffer) → Now x f → f.used ≡ true → f.first + buffer_span f ≤ m.size
+  inside_added x f (inl z) u = subst (λ (v : Buffer). v.first + buffer_span v ≤ m.size) (sym z.1) within
   inside_added x f (inr z) u =
-      subst (λ (v : Buffer). v.first + buffer-span v ≤ m.size) (sym z) (a.inside x (subst (λ (v : Buffer). v.used ≡ true) z u))
+      subst (λ (v : Buffer). v.first + buffer_span v ≤ m.size) (sym z) (a.inside x (subst (λ (v : Buffer). v.used ≡ true) z u))
 
   abbrev Clear : Buffer → Buffer → Type 0
-  Clear f g = (f.first + buffer-span f ≤ g.first) ⊎ (g.first + buffer-span g ≤ f.first)
+  Clear f g = (f.first + buffer_span f ≤ g.first) ⊎ (g.first + buffer_span g ≤ f.first)
 
   turned : (f g : Buffer) → Clear f g → Clear g f
   turned f g (inl h) = inr h

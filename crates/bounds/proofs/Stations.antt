@@ -1,13 +1,13 @@
 -- Chains of checks: what holds of a result that passed them.
-use Rattle.std.proofs.Common.{◌≡◌, ℕ, ◌+◌, ◌<◌, Bool, true, false, not, ◌&&◌, eqb, ◌≢◌, length, get_or, Some, None, Ok, Err, Option, Result, sym, refl, ap, ◌∙◌, subst, arith}
+use Rattle.std.proofs.Common.{◌≡◌, ℕ, ◌<◌, Bool, true, false, not, ◌&&◌, eqb, ◌≢◌, length, get_or, Some, None, Ok, Err, Option, Result, sym, refl, ◌∙◌, subst, arith}
 use Rattle.std.proofs.lemmas.Bool.{and_parts, eqb-true, eqb-false, not-true}
 use Rattle.list.specs.Place.{place}
 use Rattle.model.specs.declared.fault.Fault.{Fault}
 use Rattle.rules.specs.State.{Model, no_surface}
 use Rattle.rules.specs.Station.{◌>>=◌, refuse_if, or_refuse}
-use Rattle.rules.specs.Name.{Named, object, surface, buffer, callback, bears, named, named_as, or_else, of-kind, as-surface, the_surface}
+use Rattle.rules.specs.Name.{object, surface, buffer, callback, bears, named_as, or_else, only_surface, the_surface}
 use Rattle.bounds.proofs.Tables.{found_at}
-use Rattle.bounds.proofs.Trees.{some_none, some_same, id_in}
+use Rattle.bounds.proofs.Trees.{id_in}
 
 -- what holds of an accepted result
 abbrev pub Accepts : {B : Type 0} → (B → Type 0) → Result B Fault → Type 0
@@ -32,28 +32,36 @@ pub record FoundSurface (m : Model) (p : ℕ) : Type 0 where
   pub within : p < length m.surfaces
   pub lives : id_in m.surfaces p ≢ 0
 
-surface_found : (x y z w : Option ℕ) (p : ℕ)
-    → of-kind as-surface (or_else (named_as object x) (or_else (named_as surface y) (or_else (named_as buffer z) (named_as callback w)))) ≡ Some p → y ≡ Some p
-surface_found (Some k) y z w p e = absurd (some_none p (sym e))
-surface_found None (Some a) z w p e = e
-surface_found None None (Some a) w p e = absurd (some_none p (sym e))
-surface_found None None None (Some a) p e = absurd (some_none p (sym e))
-surface_found None None None None p e = absurd (some_none p (sym e))
+err_ok : (f : Fault) (p : ℕ) → ◌≡◌ {A = Result ℕ Fault} (Err f) (Ok p) → ⊥
+err_ok f p e = let z : ◌≡◌ {A = ℕ} 0 1 = cc in omega arith
 
-pub surface_named : (m : Model) (client id p : ℕ) → of-kind as-surface (named m client id) ≡ Some p → FoundSurface m p
-surface_named m client id p e =
+ok_same : (a p : ℕ) → ◌≡◌ {A = Result ℕ Fault} (Ok a) (Ok p) → Some a ≡ Some p
+ok_same a p e = cc
+
+-- a name is that of a surface only if it was found among them
+surface_found : (word : ℕ) (x y z w : Option ℕ) (p : ℕ)
+    → only_surface word (or_else (named_as object x) (or_else (named_as surface y) (or_else (named_as buffer z) (named_as callback w)))) ≡ Ok p
+    → y ≡ Some p
+surface_found word (Some k) y z w p e = absurd (err_ok _ p e)
+surface_found word None (Some a) z w p e = ok_same a p e
+surface_found word None None (Some a) w p e = absurd (err_ok _ p e)
+surface_found word None None None (Some a) p e = absurd (err_ok _ p e)
+surface_found word None None None None p e = absurd (err_ok _ p e)
+
+pub surface_named : (m : Model) (client word id p : ℕ) → the_surface m client word id ≡ Ok p → FoundSurface m p
+surface_named m client word id p e =
     let x = place (λ o. bears client id o.client o.id) m.objects in
     let y = place (λ s. bears client id s.client s.id) m.surfaces in
     let z = place (λ b. bears client id b.client b.id) m.buffers in
     let w = place (λ k. bears client id k.client k.id) m.callbacks in
-    let r = found_at (λ s. bears client id s.client s.id) no_surface 0 m.surfaces p (surface_found x y z w p e) in
+    let r = found_at (λ s. bears client id s.client s.id) no_surface 0 m.surfaces p (surface_found word x y z w p e) in
     let here : r.0 ≡ p = let w = r.1 in omega arith in
     let s = get_or m.surfaces r.0 no_surface in
-    let named-so = eqb s.id id && not (eqb id 0) in
-    let b = and_parts (eqb s.id id) (not (eqb id 0)) (and_parts (eqb s.client client) named-so r.3).1 in
+    let named_so = eqb s.id id && not (eqb id 0) in
+    let b = and_parts (eqb s.id id) (not (eqb id 0)) (and_parts (eqb s.client client) named_so r.3).1 in
     let is : s.id ≡ id = eqb-true s.id id b.0 in
-    let not-zero : id ≢ 0 = eqb-false id 0 (not-true (eqb id 0) b.1) in
+    let not_zero : id ≢ 0 = eqb-false id 0 (not-true (eqb id 0) b.1) in
     record {
       within = subst (λ k. k < length m.surfaces) here r.2;
-      lives = subst (λ k. id_in m.surfaces k ≢ 0) here (λ z. not-zero (sym is ∙ z));
+      lives = subst (λ k. id_in m.surfaces k ≢ 0) here (λ z. not_zero (sym is ∙ z));
     }

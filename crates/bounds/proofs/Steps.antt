@@ -1,5 +1,5 @@
 -- Steps that leave the tree as it is: what they keep, and how many events they send.
-use Rattle.std.proofs.Common.{◌≡◌, ℕ, zero, suc, ◌+◌, ◌≤◌, Bool, true, false, cond, not, eqb, ◌⊎◌, List, [], ◌∷◌, ◌++◌, map, length, get_or, set, Some, None, fold, sum_by, filter, Option, sym, refl, ap, ◌∙◌, subst, inl, inr, arith, length-append, length-set}
+use Rattle.std.proofs.Common.{◌≡◌, ℕ, ◌+◌, ◌≤◌, Bool, not, eqb, ◌⊎◌, List, [], ◌∷◌, length, Some, None, fold, sum_by, filter, Option, sym, refl, ap, ◌∙◌, subst, inl, inr, arith, length-set}
 use lib.ListN.{length-map}
 use Rattle.std.proofs.lemmas.List.Filters.{length-filter_both}
 use Rattle.std.proofs.lemmas.List.{length_push}

@@ -1,7 +1,7 @@
 -- Tables with one place written, or every place changed.
-use Rattle.std.proofs.Common.{◌≡◌, ℕ, zero, suc, ◌+◌, ◌<◌, ◌≤◌, Bool, true, false, cond, not, eqb, ◌≢◌, ◌⊎◌, List, [], ◌∷◌, ◌++◌, length, get_or, set, replicate, Some, None, sum_by, filter, Option, sym, refl, ap, ◌∙◌, subst, inl, inr, arith}
+use Rattle.std.proofs.Common.{◌≡◌, ℕ, zero, suc, ◌+◌, ◌<◌, ◌≤◌, Bool, true, false, cond, not, eqb, ◌≢◌, ◌⊎◌, List, [], ◌∷◌, ◌++◌, length, get_or, set, replicate, Some, sum_by, sym, refl, ap, ◌∙◌, inl, inr, arith}
 use Rattle.std.proofs.lemmas.List.Sums.{sum_by-cons}
-use Rattle.std.proofs.lemmas.Bool.{eqb-true, eqb-false, cond_both, not-true}
+use Rattle.std.proofs.lemmas.Bool.{eqb-false, cond_both, not-true}
 use Rattle.list.specs.Place.{place_from}
 use Rattle.rules.specs.Table.{each_from, without}
 use Rattle.bounds.specs.Member.{Member}
@@ -71,6 +71,11 @@ added_member [] x c (inl e) = inr e
 added_member [] x c (inr m) = absurd m
 added_member (y ∷ xs) x c (inl e) = inl (inl e)
 added_member (y ∷ xs) x c (inr m) = elim (added_member xs x c m) [ inl h ↦ inl (inr h) | inr h ↦ inr h ]
+
+pub joined_member : (xs ys : List ℕ) (c : ℕ) → Member c (xs ++ ys) → Member c xs ⊎ Member c ys
+joined_member [] ys c m = inr m
+joined_member (x ∷ xs) ys c (inl e) = inl (inl e)
+joined_member (x ∷ xs) ys c (inr m) = elim (joined_member xs ys c m) [ inl h ↦ inl (inr h) | inr h ↦ inr h ]
 
 -- a search that finds a place: it is in the table, and its record passes the test
 pub found_at : {A : Type 0} (test : A → Bool) (d : A) (i : ℕ) (xs : List A) (p : ℕ) → place_from test i xs ≡ Some p

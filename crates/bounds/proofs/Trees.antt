@@ -1,15 +1,14 @@
 -- What keeps the tree of surfaces and its links.
-use Rattle.std.proofs.Common.{◌≡◌, ℕ, zero, suc, ◌+◌, ◌<◌, ◌≤◌, Bool, true, false, ◌≢◌, ◌⊎◌, List, [], ◌∷◌, length, get_or, set, Some, None, Option, sym, refl, ap, ◌∙◌, subst, inl, inr, arith}
+use Rattle.std.proofs.Common.{◌≡◌, ℕ, Bool, true, ◌≢◌, ◌⊎◌, List, length, get_or, Some, None, Option, sym, ◌∙◌, subst, inl, inr, arith}
 use Rattle.std.proofs.lemmas.Bool.{cases_eq}
 use Rattle.rules.specs.declared.object.Object.{Object}
-use Rattle.rules.specs.declared.object.ObjectKind.{ObjectKind}
 use Rattle.rules.specs.declared.object.ObjectKind.TheVariants.{Subsurface}
 use Rattle.rules.specs.State.{Model, Surface, no_surface}
-use Rattle.bounds.specs.Forest.{parent_in, Forest, Climb}
+use Rattle.bounds.specs.Forest.{parent_in}
 use Rattle.bounds.specs.Member.{Member, Once}
 use Rattle.bounds.specs.Reached.{SameOrders}
 use Rattle.bounds.specs.Sound.{Orders, Tree, pending_in, current_in, object_in, kind_in}
-use Rattle.bounds.proofs.Forests.{pruned, adopted}
+use Rattle.bounds.proofs.Forests.{pruned}
 use Rattle.bounds.proofs.Steps.{LinkedAlike}
 
 pub some_none : {A : Type 0} (a : A) → ◌≡◌ {A = Option A} (Some a) None → ⊥

@@ -1,27 +1,25 @@
 -- Unlink: what it does to the tree, and how many events it sends.
-use Rattle.std.proofs.Common.{◌≡◌, ℕ, zero, suc, ◌+◌, ◌<◌, ◌≤◌, Bool, true, false, cond, not, eqb, ◌≢◌, ◌⊎◌, List, [], ◌∷◌, length, get_or, set, Some, None, fold, sum_by, filter, Option, sym, refl, ap, ◌∙◌, subst, inl, inr, arith, length-set, get_or-set_other}
+use Rattle.std.proofs.Common.{◌≡◌, ℕ, ◌+◌, ◌≤◌, Bool, true, not, eqb, ◌≢◌, ◌⊎◌, List, [], ◌∷◌, length, get_or, set, Some, None, fold, sum_by, filter, Option, sym, refl, ap, ◌∙◌, subst, inl, inr, arith, length-set, get_or-set_other}
 use Rattle.std.proofs.lemmas.List.Sums.{length-filter, count_by-le-length}
-use Rattle.std.proofs.lemmas.Bool.{cases_eq}
-use Rattle.rules.specs.declared.attach.Attach.{Attach}
 use Rattle.rules.specs.declared.attach.Attach.TheVariants.{Nothing}
 use Rattle.rules.specs.declared.callback.Callback.{Callback}
 use Rattle.rules.specs.declared.object.Object.{Object}
 use Rattle.rules.specs.declared.object.ObjectKind.TheVariants.{Subsurface}
 use Rattle.rules.specs.declared.stage.Stage.TheVariants.{Cached}
 use Rattle.rules.specs.State.{Model, Surface, no_surface, no_object}
-use Rattle.rules.specs.Setters.{with_parent, with_cached, with_order, with_pending_order, with_callbacks}
-use Rattle.rules.specs.Run.{Run, plain, at, edit, in_model}
+use Rattle.rules.specs.Setters.{with_parent, with_cached, with_order, with_pending_order}
+use Rattle.rules.specs.Run.{plain, at, edit, in_model}
 use Rattle.rules.specs.Hold.{end_cached}
 use Rattle.rules.specs.Callback.{end_callbacks, stands}
 use Rattle.rules.specs.Table.{without}
 use Rattle.rules.specs.Unlink.{made_inert, leave, unlink_from, unlink, unlink_children}
-use Rattle.bounds.specs.Forest.{parent_in, Forest}
+use Rattle.bounds.specs.Forest.{parent_in}
 use Rattle.bounds.specs.Member.{Member, Once}
 use Rattle.bounds.specs.Sound.{Tree, pending_in, current_in, object_in, kind_in, one, on_glass}
 use Rattle.bounds.proofs.Tables.{put_related, put_here, put_cases, put_sum, without_member}
 use Rattle.bounds.proofs.Pigeons.{once_kept}
-use Rattle.bounds.proofs.Steps.{Plain, mark_one, cached_one, cached_most, end_cached_model, end_cached_events, end_callbacks_model, end_callbacks_events}
-use Rattle.bounds.proofs.Trees.{some_none, some_same, id_in, Cut, tree_cut}
+use Rattle.bounds.proofs.Steps.{Plain, mark_one, cached_most, end_cached_model, end_cached_events, end_callbacks_model, end_callbacks_events}
+use Rattle.bounds.proofs.Trees.{some_same, tree_cut}
 
 -- the two edits of the table
 abbrev pub leaving : ℕ → Surface → Surface
