@@ -1,6 +1,6 @@
 -- How often a place stands in a list, and that a place moved beside another stands once.
 use Rattle.std.proofs.Common.{◌≡◌, ℕ, ◌+◌, ◌≤◌, Bool, true, false, cond, eqb, ◌≢◌, List, [], ◌∷◌, ◌++◌, count_by, sym, refl, ap, subst, inl, inr, arith}
-use Rattle.std.specs.List.{AllByRecursion as All}
+use Rattle.std.specs.List.{AllByRecursion}
 use Rattle.std.proofs.lemmas.List.Sums.{sum_by-cons, sum_by-append, length-filter}
 use Rattle.std.proofs.lemmas.Bool.{eqb-true, eq-eqb, ne_eqb}
 use Rattle.rules.specs.Carry.{beside, inserted}
@@ -31,7 +31,7 @@ count_none x [] n = refl
 count_none x (y ∷ ys) n =
     omega (arith, count_cons x y ys, ap counted_one (ne_eqb y x (λ e. n (inl (sym e)))), count_none x ys (λ m. n (inr m)))
 
-others : (x : ℕ) (ys : List ℕ) → count x ys ≡ 0 → All (λ y. y ≢ x) ys
+others : (x : ℕ) (ys : List ℕ) → count x ys ≡ 0 → AllByRecursion (λ y. y ≢ x) ys
 others x [] e = tt
 others x (y ∷ ys) e = (here, others x ys (omega (arith, count_cons x y ys, e)))
   where

@@ -1,6 +1,6 @@
 -- Orders, roots and callbacks have room for one more where a request adds one.
 use Rattle.std.proofs.Common.{◌≡◌, ℕ, ◌<◌, ◌≤◌, Bool, false, not, eqb, List, [], ◌∷◌, ◌++◌, length, get_or, Some, sym, refl, ap, subst, inl, inr, arith}
-use Rattle.std.specs.List.{AllByRecursion as All}
+use Rattle.std.specs.List.{AllByRecursion}
 use Rattle.std.proofs.lemmas.List.{length_push}
 use Rattle.std.proofs.lemmas.Bool.{leb-false}
 use Rattle.list.specs.Bounded.{pushed}
@@ -33,7 +33,7 @@ child_fits m client k s q e =
     put_related no_surface (λ (u v : Surface). v.pending.order ≡ u.pending.order) (λ u. refl) t s (child_of k q (get_or t s no_surface)) refl q in
     pushed_fits 32 (pending_in (with_child k s q t) q) s (omega (arith, leb-false 16 (length (pending_in t q)) e, ap length same))
 
-all_members : (P : ℕ → Type 0) (xs : List ℕ) → ((x : ℕ) → Member x xs → P x) → All P xs
+all_members : (P : ℕ → Type 0) (xs : List ℕ) → ((x : ℕ) → Member x xs → P x) → AllByRecursion P xs
 all_members P [] h = tt
 all_members P (x ∷ xs) h = (h x (inl refl), all_members P xs (λ y m. h y (inr m)))
 

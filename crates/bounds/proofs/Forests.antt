@@ -1,7 +1,7 @@
 -- Ways up a forest of surfaces: how long they are, and what keeps a forest a forest.
 use Rattle.std.proofs.Common.{◌≡◌, ℕ, zero, suc, ◌+◌, ◌<◌, Bool, true, false, ◌||◌, eqb, ◌≢◌, ◌⊎◌, List, [], ◌∷◌, length, get_or, replicate, Some, None, Option, sym, refl, ap, ◌∙◌, inl, inr, ⊎_elim, suc-add, zero-add, arith}
 use lib.ListN.{get_or-replicate}
-use Rattle.std.specs.List.{AllByRecursion as All}
+use Rattle.std.specs.List.{AllByRecursion}
 use Rattle.std.proofs.ByRecursion.{All-weaker}
 use Rattle.std.proofs.lemmas.List.{get_or_past}
 use Rattle.std.proofs.lemmas.Bool.{cases_lt, cases_eq, eqb-false, eq-eqb, both_ways, or_parts, or_left, or_right}
@@ -34,7 +34,7 @@ module _ {t : List Surface} where
   path_length (stay p) = refl
   path_length (rise n p q a e c) = ap suc (path_length c)
 
-  reached : {n p a : ℕ} (c : Climb t n p a) → All (Reached t p) (path c)
+  reached : {n p a : ℕ} (c : Climb t n p a) → AllByRecursion (Reached t p) (path c)
   reached (stay p) = ((0, stay p), tt)
   reached (rise n p q a e c) =
       let higher : (x : ℕ) → Reached t q x → Reached t p x = λ x r. (suc r.0, rise r.0 p q x e r.1) in
@@ -46,7 +46,7 @@ module _ {t : List Surface} where
       let other : (x : ℕ) → Reached t q x → x ≢ p = λ x r h. f.no_cycle r.0 p (rise r.0 p q p e (rw h at r.1)) in
       (All-weaker (Reached t q) (λ x. x ≢ p) other (path c) (reached c), path_once f c)
 
-  path_within : Forest t → {n p a : ℕ} (c : Climb t n p a) → p < length t → All (λ x. x < length t) (path c)
+  path_within : Forest t → {n p a : ℕ} (c : Climb t n p a) → p < length t → AllByRecursion (λ x. x < length t) (path c)
   path_within f (stay p) h = (h, tt)
   path_within f (rise n p q a e c) h = (h, path_within f c (f.parents p q e))
 

@@ -1,6 +1,6 @@
 -- Lists of places: their members, and that none stands twice.
 use Rattle.std.specs.Prelude.{◌≡◌, ℕ, ◌≢◌, ◌⊎◌, List, [], ◌∷◌}
-use Rattle.std.specs.List.{AllByRecursion as All}
+use Rattle.std.specs.List.{AllByRecursion}
 
 abbrev pub Member : ℕ → List ℕ → Type 0
 Member c [] = ⊥
@@ -8,4 +8,4 @@ Member c (x ∷ xs) = (c ≡ x) ⊎ Member c xs
 
 abbrev pub Once : List ℕ → Type 0
 Once [] = Unit {0}
-Once (x ∷ xs) = All (λ y. y ≢ x) xs × Once xs
+Once (x ∷ xs) = AllByRecursion (λ y. y ≢ x) xs × Once xs

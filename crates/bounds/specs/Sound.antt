@@ -1,6 +1,6 @@
 -- What holds of a core after any calls.
 use Rattle.std.specs.Prelude.{◌≡◌, ℕ, ◌+◌, ◌*◌, ◌<◌, ◌≤◌, Bool, true, ◌≢◌, ◌⊎◌, List, length, get_or, Some, None, sum_by, Option, slice_index_or}
-use Rattle.std.specs.List.{AllByRecursion as All}
+use Rattle.std.specs.List.{AllByRecursion}
 use Rattle.rules.specs.declared.buffer.Buffer.{Buffer}
 use Rattle.rules.specs.declared.object.Object.{Object}
 use Rattle.rules.specs.declared.object.ObjectKind.{ObjectKind}
@@ -63,7 +63,7 @@ on_glass t ws = sum_by (λ s. one s.current.mark) t + length ws
 -- a surface is raised once
 pub record Roots (ps : List ℕ) : Type 0 where
   pub once : Once ps
-  pub places : All (λ p. p < most) ps
+  pub places : AllByRecursion (λ p. p < most) ps
 
 pub record Sound (m : Model) : Type 0 where
   pub tree : Tree m.surfaces m.objects

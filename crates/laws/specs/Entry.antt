@@ -1,6 +1,6 @@
 -- What a core wrote in a run. Only `going`, `received` and `RightValues` look at it.
 use Rattle.std.specs.Prelude.{◌≡◌, ℕ, ◌+◌, ◌&&◌, List, [], ◌∷◌, map, Some, None, count_by, Option, ◌==◌}
-use Rattle.std.specs.List.{AllByRecursion as All}
+use Rattle.std.specs.List.{AllByRecursion}
 use Rattle.model.specs.declared.event.Event.{Event}
 use Rattle.rules.specs.Call.{Call}
 use Rattle.laws.specs.History.{frame_time}
@@ -42,4 +42,4 @@ module _ (size : ℕ) where
 
   -- each opcode 0 event of the newest call has the value that its receiver's kind asks for
   abbrev pub RightValues : Call → List Call → List Event → Type 0
-  RightValues c cs events = All (λ e. e.opcode ≡ 0 → value_to c (receiver (c ∷ cs) e) ≡ Some e.value) events
+  RightValues c cs events = AllByRecursion (λ e. e.opcode ≡ 0 → value_to c (receiver (c ∷ cs) e) ≡ Some e.value) events

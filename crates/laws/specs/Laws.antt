@@ -1,6 +1,6 @@
 -- The laws over whole runs, as they hold after each call. They are stated and not proved yet.
 use Rattle.std.specs.Prelude.{◌≡◌, ℕ, ◌+◌, ◌<◌, true, cond, List, [], ◌∷◌, length, MatchOption}
-use Rattle.std.specs.List.{AllByRecursion as All}
+use Rattle.std.specs.List.{AllByRecursion}
 use Rattle.model.specs.declared.size.Size.{Size}
 use Rattle.rules.specs.Hold.{holds}
 use Rattle.laws.specs.History.{SameMemory, SameSize, model_after, successful_frame}
@@ -48,14 +48,14 @@ module _ (size : ℕ) where
 -- the laws after a call of a run. The pixel memory held start before the first call and holds now; the presenter has the size output, and pixel x y is its glass at column x and row y, worked out with the memory as it is now
 pub record RunLaws (start : List ℕ) (output : Size) (h : List Entry) (pixel : ℕ → ℕ → ℕ) (now : List ℕ) : Type 0 where
   -- one pixel memory and one presenter serve the run
-  pub one_memory : All (SameMemory (length start)) (calls h)
-  pub one_presenter : All (SameSize output) (calls h)
+  pub one_memory : AllByRecursion (SameMemory (length start)) (calls h)
+  pub one_presenter : AllByRecursion (SameSize output) (calls h)
   -- the memory has changed by accepted paints alone
   pub memory : now ≡ pixels start (calls h)
   -- while the output is on, the last picture stands on the glass
   pub glass : (model_after (length start) (calls h)).on ≡ true → (x y : ℕ) → x < output.width → y < output.height → pixel x y ≡ last_picture start (calls h) x y
-  pub balance : All (Balanced (length start) h) (objects (length start) (calls h))
+  pub balance : AllByRecursion (Balanced (length start) h) (objects (length start) (calls h))
   pub settled : OfNewest (Settled (length start)) h
-  pub once : All (AnsweredOnce (length start) h) (objects (length start) (calls h))
-  pub first : OfNewest (λ e past. All (AnsweredFirst (length start) e past) (objects (length start) (calls h))) h
+  pub once : AllByRecursion (AnsweredOnce (length start) h) (objects (length start) (calls h))
+  pub first : OfNewest (λ e past. AllByRecursion (AnsweredFirst (length start) e past) (objects (length start) (calls h))) h
   pub values : OfNewest (λ e past. RightValues (length start) e.call (calls past) e.events) h

@@ -1,6 +1,6 @@
 -- What an accepted showing says.
 use Rattle.std.proofs.Common.{◌≡◌, ℕ, Bool, true, false, leb, List, [], ◌∷◌, length, Ok, refl, ⊎_elim, arith}
-use Rattle.std.specs.List.{AllByRecursion as All}
+use Rattle.std.specs.List.{AllByRecursion}
 use Rattle.std.proofs.lemmas.Bool.{and_parts, cases_Bool}
 use Rattle.model.specs.declared.element.Element.{Element}
 use Rattle.model.specs.Buffer.{all_sound, SameOn}
@@ -17,6 +17,6 @@ show_lit true es n e = refl
 show_lit false es n e = let z : ◌≡◌ {A = ℕ} 0 1 = cc in absurd (omega arith)
 
 -- a pixel memory is equal to itself on every span
-pub same_self : (m : List ℕ) (es : List Element) → All (SameOn m m) es
+pub same_self : (m : List ℕ) (es : List Element) → AllByRecursion (SameOn m m) es
 same_self m [] = tt
 same_self m (e ∷ es) = ((λ k h. refl), same_self m es)

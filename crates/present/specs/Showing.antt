@@ -1,6 +1,6 @@
 -- What stands on the glass of a presenter.
 use Rattle.std.specs.Prelude.{◌≡◌, ℕ, Bool, List, MatchBool}
-use Rattle.std.specs.List.{AllByRecursion as All}
+use Rattle.std.specs.List.{AllByRecursion}
 use Rattle.model.specs.declared.element.Element.{Element}
 use Rattle.model.specs.declared.size.Size.{Size}
 use Rattle.model.specs.Buffer.{SameOn}
@@ -26,7 +26,7 @@ read scene = scene
 -- the glass is the picture of the scene with the memory m, for every memory that is equal to m where it may still be read
 abbrev pub Shows : Glass → Size → List Element → List ℕ → Type 0
 Shows glass size scene m =
-    (other : List ℕ) → All (SameOn other m) (read scene) → Everywhere size.width size.height (λ x y. glass other x y ≡ picture scene m x y)
+    (other : List ℕ) → AllByRecursion (SameOn other m) (read scene) → Everywhere size.width size.height (λ x y. glass other x y ≡ picture scene m x y)
 
 -- the glass is black, for every memory
 abbrev pub Black : Glass → Size → Type 0

@@ -1,7 +1,7 @@
 -- The fills of a file that was parsed fit its pixel memory.
 use Rattle.std.proofs.Common.{◌≡◌, ℕ, ◌+◌, ◌≤◌, Bool, true, false, cond, ltb, ◌⊎◌, List, [], ◌∷◌, ◌++◌, Some, None, Ok, Err, codes, Option, Result, refl, subst, inl, inr, ⊎_elim, arith}
 use Rattle.std.specs.Option.{ok_or}
-use Rattle.std.specs.List.{AllByRecursion as All}
+use Rattle.std.specs.List.{AllByRecursion}
 use Rattle.std.specs.Str.{bytes_eq}
 use Rattle.std.proofs.ByRecursion.{All-push}
 use Rattle.std.proofs.lemmas.Bool.{ltb-false}
@@ -51,14 +51,14 @@ module _ (n : ℕ) where
       let low = ltb-false n (first + found.0.0) inside.0 in
       subst (λ (q : ℕ × ℕ). first + q.0 ≤ n) same low
 
-  fills_fit : (ws : List (List ℕ)) (first : ℕ) (so_far items : List Item) → All (Fits n) so_far → fills n first so_far ws ≡ Ok items → All (Fits n) items
-  fills_fit [] first so_far items h e = let same : so_far ≡ items = cc in subst (All (Fits n)) same h
+  fills_fit : (ws : List (List ℕ)) (first : ℕ) (so_far items : List Item) → AllByRecursion (Fits n) so_far → fills n first so_far ws ≡ Ok items → AllByRecursion (Fits n) items
+  fills_fit [] first so_far items h e = let same : so_far ≡ items = cc in subst (AllByRecursion (Fits n)) same h
   fills_fit (word ∷ ws) first so_far items h e =
       let found = and_then_ok (placed_pixels n first word) _ items e in
       fills_fit ws _ _ items (All-push (Fits n) so_far (Fill first found.0.0 found.0.1) h (placed_fits first word found.0 found.1)) found.2
 
-  item_fit : (o : Option (List ℕ)) (ws : List (List ℕ)) (so_far items : List Item) → All (Fits n) so_far → item_by n so_far o ws ≡ Ok items → All (Fits n) items
-  item_fit None ws so_far items h e = let same : so_far ≡ items = cc in subst (All (Fits n)) same h
+  item_fit : (o : Option (List ℕ)) (ws : List (List ℕ)) (so_far items : List Item) → AllByRecursion (Fits n) so_far → item_by n so_far o ws ≡ Ok items → AllByRecursion (Fits n) items
+  item_fit None ws so_far items h e = let same : so_far ≡ items = cc in subst (AllByRecursion (Fits n)) same h
   item_fit (Some word) ws so_far items h e =
       ⊎_elim
       (λ (p : pixels_line n so_far ws ≡ Ok items).
@@ -68,24 +68,24 @@ module _ (n : ℕ) where
       (λ (p : and_then (element_line ws) (λ element. Ok (so_far ++ Element element ∷ [])) ≡ Ok items).
       let found = and_then_ok (element_line ws) _ items p in
       let same : so_far ++ Element found.0 ∷ [] ≡ items = cc in
-      subst (All (Fits n)) same (All-push (Fits n) so_far (Element found.0) h tt))
+      subst (AllByRecursion (Fits n)) same (All-push (Fits n) so_far (Element found.0) h tt))
       (λ r. absurd (never_ok (bytes_eq word (codes "console")) SecondConsole UnknownLine items r))
       (cond_either (bytes_eq word (codes "element")) _ _ items q))
       (cond_either (bytes_eq word (codes "pixels")) _ _ items e)
 
-  items_fit : (ls : List (List ℕ)) (m : ℕ) (so_far items : List Item) → All (Fits n) so_far → items_after n m so_far ls ≡ Ok items → All (Fits n) items
-  items_fit [] m so_far items h e = let same : so_far ≡ items = cc in subst (All (Fits n)) same h
+  items_fit : (ls : List (List ℕ)) (m : ℕ) (so_far items : List Item) → AllByRecursion (Fits n) so_far → items_after n m so_far ls ≡ Ok items → AllByRecursion (Fits n) items
+  items_fit [] m so_far items h e = let same : so_far ≡ items = cc in subst (AllByRecursion (Fits n)) same h
   items_fit (l ∷ ls) m so_far items h e =
       let found = and_then_ok (on_line (m + 1) (item_line n so_far (words l))) _ items e in
       items_fit ls (m + 1) found.0 items (item_fit (first_of (words l)) (after_first (words l)) so_far found.0 h (on_line_ok (m + 1) (item_line n so_far (words l)) found.0 found.1)) found.2
 
-fits_of : (c d : Console) (xs ys : List Item) → ◌≡◌ {A = Result (Console × List Item) BadLine} (Ok (c, xs)) (Ok (d, ys)) → All (Fits c.pixels) xs → All (Fits d.pixels) ys
+fits_of : (c d : Console) (xs ys : List Item) → ◌≡◌ {A = Result (Console × List Item) BadLine} (Ok (c, xs)) (Ok (d, ys)) → AllByRecursion (Fits c.pixels) xs → AllByRecursion (Fits d.pixels) ys
 fits_of c d xs ys e h =
     let same : ◌≡◌ {A = Console × List Item} (c, xs) (d, ys) = cc in
-    subst (λ (p : Console × List Item). All (Fits p.0.pixels) p.1) same h
+    subst (λ (p : Console × List Item). AllByRecursion (Fits p.0.pixels) p.1) same h
 
 -- what was parsed fits
-pub scene_fits : (text : List ℕ) (console : Console) (items : List Item) → scene_of text ≡ Ok (console, items) → All (Fits console.pixels) items
+pub scene_fits : (text : List ℕ) (console : Console) (items : List Item) → scene_of text ≡ Ok (console, items) → AllByRecursion (Fits console.pixels) items
 scene_fits text console items e =
     let first = and_then_ok (first_line 0 (lines text)) _ (console, items) e in
     let head = and_then_ok (on_line first.0.0 (console_line (words first.0.1))) _ (console, items) first.2 in
