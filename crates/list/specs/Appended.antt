@@ -1,6 +1,6 @@
 -- What a list that appends has done between two moments.
 use Rattle.std.specs.Prelude.{◌≡◌, ℕ, ◌+◌, ◌-◌, min, List, length}
-use Rattle.std.proofs.lemmas.List.Edits.{sets}
+use lib.Seq.{sets}
 use Rattle.list.specs.declared.appender.Appender.{Appender}
 
 module _ {T : Type 0} where

@@ -12,9 +12,9 @@ module _ (bytes : List ℕ) where
   unfolding words
   length_words = length-map-range_with_len (word bytes) 0 (length bytes / 4)
 
-  pub get_d_words : (i : ℕ) → i < length bytes / 4 → get_or (words bytes) i 0 ≡ word bytes i
+  pub get_or_words : (i : ℕ) → i < length bytes / 4 → get_or (words bytes) i 0 ≡ word bytes i
   unfolding words
-  get_d_words i h = get_or-map-range_with_len (word bytes) 0 (length bytes / 4) i i 0 h (zero-add i)
+  get_or_words i h = get_or-map-range_with_len (word bytes) 0 (length bytes / 4) i i 0 h (zero-add i)
 
   pub words_all : (ws : List ℕ) → length ws ≡ length bytes / 4 → ((i : ℕ) → i < length bytes / 4 → get_or ws i 0 ≡ word bytes i) → ws ≡ words bytes
   unfolding words
@@ -26,7 +26,7 @@ module _ (bytes : List ℕ) where
 -- also past the end, where a word is 0
 pub words_below : (bytes : List ℕ) → ((i : ℕ) → get_or bytes i 0 < 256) → (i : ℕ) → get_or (words bytes) i 0 < 2 ^ 32
 words_below bytes h i =
-    ⊎_elim (λ (low : i < length bytes / 4). rw (get_d_words bytes i low) (word_below bytes h i))
+    ⊎_elim (λ (low : i < length bytes / 4). rw (get_or_words bytes i low) (word_below bytes h i))
     (λ (high : length bytes / 4 ≤ i). rw (get_or_past (words bytes) i 0 (rw (length_words bytes) high)) (omega arith))
     (cases_lt i (length bytes / 4))
 

@@ -24,8 +24,8 @@ module _ (a k : ℕ) (xs ys : List ℕ) (fits : a + k ≤ length xs) (long : len
   above h = search (rules, places)
 
   -- what stands at n after a write to the k places from a on
-  pub get_d_put_mid : get_or (put_mid a k xs ys) n 0 ≡ cond (leb a n && ltb n (a + k)) (get_or ys (n - a) 0) (get_or xs n 0)
-  get_d_put_mid =
+  pub get_or_put_mid : get_or (put_mid a k xs ys) n 0 ≡ cond (leb a n && ltb n (a + k)) (get_or ys (n - a) 0) (get_or xs n 0)
+  get_or_put_mid =
       ⊎_elim (λ h. below h ∙ grind (arith, nat_tests))
       (λ h. ⊎_elim (λ l. within h l ∙ grind (arith, nat_tests)) (λ l. above l ∙ grind (arith, nat_tests)) (cases_lt n (a + k)))
       (cases_lt n a)
@@ -45,7 +45,7 @@ module _ (w y x n m : ℕ) (xs ys : List ℕ) (f : ℕ → ℕ → ℕ) (same : 
   pub row_written : get_or (put_mid (y * w + x) m xs ys) (j * w + i) 0 ≡ cond (eqb j y && (leb x i && ltb i (x + n))) (f (i - x) (get_or xs (j * w + i) 0)) (get_or xs (j * w + i) 0)
   row_written =
       let b = eqb j y && (leb x i && ltb i (x + n)) in
-      get_d_put_mid (y * w + x) m xs ys (omega arith) long (j * w + i) ∙ ap (λ t. cond t (get_or ys (j * w + i - (y * w + x)) 0) (get_or xs (j * w + i) 0)) (ap (λ v. leb (y * w + x) (j * w + i) && ltb (j * w + i) (y * w + x + v)) same ∙ in_row w y x n j i wide inw) ∙ ⊎_elim (λ t. cond-true b _ _ t ∙ hit t ∙ sym (cond-true b _ _ t)) (λ u. cond-false b _ _ u ∙ sym (cond-false b _ _ u)) (cases_Bool b)
+      get_or_put_mid (y * w + x) m xs ys (omega arith) long (j * w + i) ∙ ap (λ t. cond t (get_or ys (j * w + i - (y * w + x)) 0) (get_or xs (j * w + i) 0)) (ap (λ v. leb (y * w + x) (j * w + i) && ltb (j * w + i) (y * w + x + v)) same ∙ in_row w y x n j i wide inw) ∙ ⊎_elim (λ t. cond-true b _ _ t ∙ hit t ∙ sym (cond-true b _ _ t)) (λ u. cond-false b _ _ u ∙ sym (cond-false b _ _ u)) (cases_Bool b)
 
 -- row r of a span and the columns up to c of it lie in the span
 pub in_span : (first stride height r c n : ℕ) → r < height → c ≤ stride → first + stride * height ≤ n → first + r * stride + c ≤ n

@@ -1,7 +1,7 @@
 // A frame memory: lent pixels, row by row, and the sides that they should have.
 ghost use Rattle.std.specs.Prelude.{◌≡◌, true, length};
 ghost use Rattle.model.specs.Output.{sized};
-ghost use Rattle.raster.specs.Frame.{has_sides as may_have, fits, frame_length as length_of, extent as type_size, blackened, painted, pixel_at};
+ghost use Rattle.raster.specs.Frame.{has_sides as may_have, fits, frame_length as length_of, extent as size_of, blackened, painted, pixel_at};
 
 use super::draw::{clear, draw_scene};
 use super::sound::are_sound;
@@ -32,7 +32,7 @@ pub fn frame_length(width: u32, height: u32) -> usize
 
 // The size of an output over a frame memory of `pixels` pixels: 0 x 0 where that does not fit the sides.
 pub fn frame_size(width: u32, height: u32, pixels: usize) -> Size
-    ensures value { result ≡ type_size width height pixels }
+    ensures value { result ≡ size_of width height pixels }
     ensures sized { sized result ≡ true }
 {
     if is_fit(width, height, pixels) {
