@@ -32,21 +32,15 @@ pub record FoundSurface (m : Model) (p : ℕ) : Type 0 where
   pub within : p < length m.surfaces
   pub lives : id_in m.surfaces p ≢ 0
 
-err_ok : (f : Fault) (p : ℕ) → ◌≡◌ {A = Result ℕ Fault} (Err f) (Ok p) → ⊥
-err_ok f p e = let z : ◌≡◌ {A = ℕ} 0 1 = cc in omega arith
-
-ok_same : (a p : ℕ) → ◌≡◌ {A = Result ℕ Fault} (Ok a) (Ok p) → Some a ≡ Some p
-ok_same a p e = cc
-
 -- a name is that of a surface only if it was found among them
 surface_found : (word : ℕ) (x y z w : Option ℕ) (p : ℕ)
     → only_surface word (or_else (named_as object x) (or_else (named_as surface y) (or_else (named_as buffer z) (named_as callback w)))) ≡ Ok p
     → y ≡ Some p
-surface_found word (Some k) y z w p e = absurd (err_ok _ p e)
-surface_found word None (Some a) z w p e = ok_same a p e
-surface_found word None None (Some a) w p e = absurd (err_ok _ p e)
-surface_found word None None None (Some a) p e = absurd (err_ok _ p e)
-surface_found word None None None None p e = absurd (err_ok _ p e)
+surface_found word (Some k) y z w p e = cc
+surface_found word None (Some a) z w p e = cc
+surface_found word None None (Some a) w p e = cc
+surface_found word None None None (Some a) p e = cc
+surface_found word None None None None p e = cc
 
 pub surface_named : (m : Model) (client word id p : ℕ) → the_surface m client word id ≡ Ok p → FoundSurface m p
 surface_named m client word id p e =

@@ -1,5 +1,5 @@
 -- What holds of a core after any calls.
-use Rattle.std.specs.Prelude.{◌≡◌, ℕ, ◌+◌, ◌*◌, ◌<◌, ◌≤◌, Bool, true, ◌≢◌, ◌⊎◌, List, length, get_or, Some, None, sum_by, Option, slice_index_or}
+use Rattle.std.specs.Prelude.{◌≡◌, ℕ, ◌+◌, ◌*◌, ◌<◌, ◌≤◌, Bool, true, ◌≢◌, ◌⊎◌, List, length, Some, None, sum_by, Option, slice_index_or}
 use Rattle.std.specs.List.{AllByRecursion}
 use Rattle.rules.specs.declared.buffer.Buffer.{Buffer}
 use Rattle.rules.specs.declared.object.Object.{Object}
@@ -10,16 +10,16 @@ use Rattle.bounds.specs.Forest.{Forest, parent_in}
 use Rattle.bounds.specs.Member.{Member, Once}
 
 abbrev pub pending_in : List Surface → ℕ → List ℕ
-pending_in t p = (get_or t p no_surface).pending.order
+pending_in t p = (slice_index_or t p no_surface).pending.order
 
 abbrev pub current_in : List Surface → ℕ → List ℕ
-current_in t p = (get_or t p no_surface).current.order
+current_in t p = (slice_index_or t p no_surface).current.order
 
 abbrev pub object_in : List Surface → ℕ → Option ℕ
-object_in t p = (get_or t p no_surface).object
+object_in t p = (slice_index_or t p no_surface).object
 
 abbrev pub kind_in : List Object → ℕ → ObjectKind
-kind_in os k = (get_or os k no_object).kind
+kind_in os k = (slice_index_or os k no_object).kind
 
 -- the parents are a forest; an order of q has q itself and children of q, and a pending order none of them twice
 pub record Orders (t : List Surface) : Type 0 where
@@ -38,7 +38,7 @@ pub record Tree (t : List Surface) (os : List Object) : Type 0 where
   pub inert : (k p : ℕ) → kind_in os k ≡ Subsurface (Some p) true → parent_in t p ≡ None
   -- the surface of a sub-surface object knows it
   pub known : (k p : ℕ) (inert : Bool) → kind_in os k ≡ Subsurface (Some p) inert → object_in t p ≡ Some k
-  pub free : (p : ℕ) → (get_or t p no_surface).id ≡ 0 → object_in t p ≡ None
+  pub free : (p : ℕ) → (slice_index_or t p no_surface).id ≡ 0 → object_in t p ≡ None
 
 -- how many pixels the span of a buffer record has
 abbrev pub buffer_span : Buffer → ℕ
@@ -46,10 +46,10 @@ buffer_span b = b.stride * b.height
 
 -- the spans of buffer records lie inside the pixel memory, and none meets another
 pub record Spans (size : ℕ) (bs : List Buffer) : Type 0 where
-  pub inside : (b : ℕ) → (get_or bs b no_buffer).used ≡ true → (get_or bs b no_buffer).first + buffer_span (slice_index_or bs b no_buffer) ≤ size
-  pub apart : (a b : ℕ) → a ≢ b → (get_or bs a no_buffer).used ≡ true → (get_or bs b no_buffer).used ≡ true
-      → ((get_or bs a no_buffer).first + buffer_span (slice_index_or bs a no_buffer) ≤ (get_or bs b no_buffer).first)
-      ⊎ ((get_or bs b no_buffer).first + buffer_span (slice_index_or bs b no_buffer) ≤ (get_or bs a no_buffer).first)
+  pub inside : (b : ℕ) → (slice_index_or bs b no_buffer).used ≡ true → (slice_index_or bs b no_buffer).first + buffer_span (slice_index_or bs b no_buffer) ≤ size
+  pub apart : (a b : ℕ) → a ≢ b → (slice_index_or bs a no_buffer).used ≡ true → (slice_index_or bs b no_buffer).used ≡ true
+      → ((slice_index_or bs a no_buffer).first + buffer_span (slice_index_or bs a no_buffer) ≤ (slice_index_or bs b no_buffer).first)
+      ⊎ ((slice_index_or bs b no_buffer).first + buffer_span (slice_index_or bs b no_buffer) ≤ (slice_index_or bs a no_buffer).first)
 
 -- one, if there is something
 abbrev pub one : Option ℕ → ℕ

@@ -3,7 +3,7 @@ use Rattle.std.specs.Prelude.{ℕ, ◌+◌, Bool, false, cond, ◌&&◌, List, [
 use Rattle.std.specs.Option.{option_or}
 use Rattle.rules.specs.State.{Model, surface_at, buffer_at}
 use Rattle.rules.specs.Hold.{held}
-use Rattle.rules.specs.Name.{Named, object, surface, buffer, callback, named}
+use Rattle.rules.specs.Name.{the_buffer}
 use Rattle.rules.specs.Ask.{Found, create_surface, get_subsurface, destroy_surface, attach, damage, ask_frame, commit_surface, destroy_subsurface, set_position, place_beside, set_sync, set_desync, destroy_buffer, asked}
 use Rattle.rules.specs.Call.{Call, request_call, buffer_call, root_call, paint_call, switch_call, frame_call}
 use Rattle.laws.specs.History.{model_after, accepts}
@@ -34,14 +34,6 @@ carried_by (paint_call client id offset pixels memory) m = None
 carried_by (switch_call on size places) m = None
 carried_by (frame_call time memory places) m = None
 
--- the place of the record that is named, if it is a buffer's
-abbrev pub buffer_place : Option Named → Option ℕ
-buffer_place None = None
-buffer_place (Some (object k)) = None
-buffer_place (Some (surface p)) = None
-buffer_place (Some (buffer b)) = Some b
-buffer_place (Some (callback k)) = None
-
 module _ (size : ℕ) where
   -- whether the record at a place, if there is one, is that of o
   abbrev pub is_record : Made → List Call → Option ℕ → Bool
@@ -59,7 +51,7 @@ module _ (size : ℕ) where
   -- the place of the record of the buffer o, while the object lives
   abbrev pub record_place : Made → List Call → Option ℕ
   record_place o cs =
-      cond (is_last size o cs) (buffer_place (named (model_after size cs) o.client o.id)) None
+      cond (is_last size o cs) (elim (the_buffer (model_after size cs) o.client 0 o.id) [ Ok b ↦ Some b | Err fault ↦ None ]) None
 
   -- the same from the call that made o to the one that destroyed it, that one included: o lives before the newest call or after it
   abbrev pub counted_place : Made → List Call → Option ℕ
