@@ -8,9 +8,17 @@ use Rattle.model.specs.declared.interface.Interface.{Interface}
 use Rattle.model.specs.declared.interface.Interface.TheVariants.{Display, Compositor, Subcompositor, Surface, Subsurface, Buffer, Callback}
 use Rattle.model.specs.declared.request.Request.{Request}
 use Rattle.model.specs.Word.{int_word}
-use Rattle.model.specs.Request.{exactly, fitting, int_at, compositor_request, subcompositor_request, surface_request, subsurface_request, buffer_request, request_of}
-use Rattle.model.specs.Asked.{NumberedRequest, numbered, numbers, in_numbers, asked}
+use Rattle.model.specs.Request.{exactly, fitting, optional_id, int_at, compositor_request, subcompositor_request, surface_request, subsurface_request, buffer_request, request_of}
+use Rattle.model.specs.Asked.{NumberedRequest, numbered, id_word, numbers, in_numbers, asked}
 use Rattle.model.proofs.Words.{int_word_int}
+
+-- the word of an id or none is the one that it was read from
+named_back : (w : ℕ) → id_word (optional_id w) ≡ w
+named_back w =
+    ⊎_elim
+    (λ (t : eqb w 0 ≡ true). rw t (sym (eqb-true w 0 t)))
+    (λ (f : eqb w 0 ≡ false). rw f refl)
+    (cases_Bool (eqb w 0))
 
 module _ (args : List ℕ) where
   -- n arguments are the first n of them, written out where n is a numeral
@@ -46,7 +54,7 @@ module _ (args : List ℕ) where
     surface_asked : (o : ℕ) → in_numbers (surface_request o args) ≡ asked Surface o args
     surface_asked o =
         entry o 0 0 Surface _ _ _ (plain Surface 0 0)
-        (entry o 1 3 Surface _ _ _ (λ long. rw (back 1, back 2) (plain Surface 1 3 long))
+        (entry o 1 3 Surface _ _ _ (λ long. rw (named_back (get_or args 0 0), back 1, back 2) (plain Surface 1 3 long))
         (entry o 2 4 Surface _ _ _ (λ long. rw (back 0, back 1, back 2, back 3) (plain Surface 2 4 long))
         (entry o 3 1 Surface _ _ _ (plain Surface 3 1)
         (entry o 6 0 Surface _ _ _ (plain Surface 6 0) refl))))

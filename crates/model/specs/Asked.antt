@@ -1,5 +1,5 @@
 -- Requests in numbers, so that what was asked can be said without the type that the code has for it.
-use Rattle.std.specs.Prelude.{ℕ, Bool, cond, List, [], ◌∷◌, Ok, Err, Result, ◌==◌}
+use Rattle.std.specs.Prelude.{ℕ, Bool, cond, List, [], ◌∷◌, Some, None, Ok, Err, Option, Result, ◌==◌}
 use Rattle.model.specs.declared.fault.Fault.{Fault}
 use Rattle.model.specs.declared.interface.Interface.{Interface}
 use Rattle.model.specs.declared.interface.Interface.TheVariants.{Display, Compositor, Subcompositor, Surface, Subsurface, Buffer, Callback}
@@ -17,11 +17,16 @@ pub record NumberedRequest : Type 0 where
 abbrev pub numbered : Interface → ℕ → List ℕ → NumberedRequest
 numbered i o args = record { interface = i; opcode = o; arguments = args }
 
+-- the word that stands for an id or none
+abbrev pub id_word : Option ℕ → ℕ
+id_word None = 0
+id_word (Some n) = n
+
 abbrev pub numbers : Request → NumberedRequest
 numbers (CreateSurface n) = numbered Compositor 0 (n ∷ [])
 numbers (GetSubsurface n s p) = numbered Subcompositor 1 (n ∷ s ∷ p ∷ [])
 numbers SurfaceDestroy = numbered Surface 0 []
-numbers (Attach b x y) = numbered Surface 1 (b ∷ int_word x ∷ int_word y ∷ [])
+numbers (Attach b x y) = numbered Surface 1 (id_word b ∷ int_word x ∷ int_word y ∷ [])
 numbers (Damage x y w h) = numbered Surface 2 (int_word x ∷ int_word y ∷ int_word w ∷ int_word h ∷ [])
 numbers (Frame n) = numbered Surface 3 (n ∷ [])
 numbers Commit = numbered Surface 6 []

@@ -1,4 +1,5 @@
 pub mod Fault
+pub mod Format
 pub mod Pixel
 pub mod Scene
 pub mod Buffer

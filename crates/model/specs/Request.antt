@@ -1,5 +1,5 @@
 -- The requests of each interface, and which of them an opcode and arguments ask for. The arguments are a body's words.
-use Rattle.std.specs.Prelude.{ℕ, Bool, cond, List, length, ℤ, Ok, Err, Result, ◌==◌, slice_index}
+use Rattle.std.specs.Prelude.{ℕ, Bool, cond, List, length, ℤ, Some, None, Ok, Err, Option, Result, ◌==◌, slice_index}
 use Rattle.model.specs.declared.fault.Fault.{Fault}
 use Rattle.model.specs.declared.interface.Interface.{Interface}
 use Rattle.model.specs.declared.interface.Interface.TheVariants.{Display, Compositor, Subcompositor, Surface, Subsurface, Buffer, Callback}
@@ -20,9 +20,15 @@ fitting fits a = cond fits (Ok a) (Err (fault 7 3 1))
 abbrev pub unlisted : {A : Type 0} → Result A Fault
 unlisted = Err (fault 6 3 1)
 
--- argument i as an id, and as a signed number
+-- argument i as an id, as an id or none, which is 0, and as a signed number
 abbrev pub id_at : List ℕ → ℕ → ℕ
 id_at args i = slice_index args i
+
+abbrev pub optional_id : ℕ → Option ℕ
+optional_id w = cond (w == 0) None (Some w)
+
+abbrev pub optional_id_at : List ℕ → ℕ → Option ℕ
+optional_id_at args i = optional_id (slice_index args i)
 
 abbrev pub int_at : List ℕ → ℕ → ℤ
 int_at args i = int (slice_index args i)
@@ -37,7 +43,7 @@ subcompositor_request opcode args =
 abbrev pub surface_request : ℕ → List ℕ → Result Request Fault
 surface_request opcode args =
     cond (opcode == 0) (fitting (exactly 0 args) SurfaceDestroy)
-    (cond (opcode == 1) (fitting (exactly 3 args) (Attach (id_at args 0) (int_at args 1) (int_at args 2)))
+    (cond (opcode == 1) (fitting (exactly 3 args) (Attach (optional_id_at args 0) (int_at args 1) (int_at args 2)))
     (cond (opcode == 2) (fitting (exactly 4 args) (Damage (int_at args 0) (int_at args 1) (int_at args 2) (int_at args 3)))
     (cond (opcode == 3) (fitting (exactly 1 args) (Frame (id_at args 0)))
     (cond (opcode == 6) (fitting (exactly 0 args) Commit) unlisted))))

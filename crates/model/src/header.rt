@@ -1,6 +1,6 @@
 // The header of a message: the first two of its words.
 
-#[derive(Clone, Copy)]
+#[derive(Clone, Copy, PartialEq, Eq, Debug)]
 pub struct Header {
     // The object that the message is sent to.
     pub object: u32,

@@ -1,7 +1,7 @@
 // What a client asks of an object: one variant for each request of each interface.
 
-// Objects are named by their ids; a buffer of 0 is none.
-#[derive(Clone, Copy, PartialEq, Eq)]
+// Objects are named by their ids.
+#[derive(Clone, Copy, PartialEq, Eq, Debug)]
 pub enum Request {
     CreateSurface {
         id: u32,
@@ -12,8 +12,9 @@ pub enum Request {
         parent: u32,
     },
     SurfaceDestroy,
+    // The surface is to have no buffer where none is named.
     Attach {
-        buffer: u32,
+        buffer: Option<u32>,
         x: i32,
         y: i32,
     },
