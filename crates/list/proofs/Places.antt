@@ -1,24 +1,21 @@
--- The first place of a list whose element passes a test: one step of the search, and what its answer says.
-use Rattle.std.proofs.Common.{◌≡◌, ℕ, ◌+◌, ◌<◌, ◌≤◌, Bool, true, false, cond, ◌||◌, List, [], ◌∷◌, length, get_or, drop, is_some, Some, None, sym, refl, ap, ◌∙◌, ⊎_elim}
-use Rattle.std.proofs.lemmas.List.{at_drop_more, at_drop_all}
+-- The first place of a list whose element passes a test: where `position` has it.
+use Rattle.std.proofs.Common.{◌≡◌, ℕ, ◌+◌, Bool, true, false, cond, ltb, ◌||◌, List, [], ◌∷◌, length, is_some, Some, None, sym, refl, ap, ◌∙◌, ⊎_elim, arith}
+use Rattle.std.specs.List.{position, position_or_len}
 use Rattle.std.proofs.lemmas.Bool.{cases_Bool, cond-true, cond-false, or_left}
-use Rattle.list.specs.Place.{place_from, any}
+use Rattle.list.specs.Place.{place, place_from, any}
 
-module _ {A : Type 0} (p : A → Bool) (xs : List A) (i : ℕ) where
-  -- the element at i decides
-  step : (x : A) (b : Bool) → i < length xs → x ≡ get_or xs i x → p x ≡ b → place_from p i (drop i xs) ≡ cond b (Some i) (place_from p (i + 1) (drop (i + 1) xs))
-  step x b h r t =
-      at_drop_more (place_from p i) xs i x h
-      ∙ ap (λ (c : Bool). cond c (Some i) (place_from p (i + 1) (drop (i + 1) xs))) (ap p (sym r) ∙ t)
+module _ {A : Type 0} (p : A → Bool) where
+  -- where so many elements fail the test
+  place_after : (i : ℕ) (xs : List A) → place_from p i xs ≡ cond (ltb (position_or_len p xs) (length xs)) (Some (i + position_or_len p xs)) None
+  place_after i [] = refl
+  place_after i (x ∷ xs) =
+      ⊎_elim
+      (λ (t : p x ≡ true). grind (arith, t))
+      (λ (f : p x ≡ false). let h = place_after (i + 1) xs in grind (arith, f, h))
+      (cases_Bool (p x))
 
-  pub place_hit : (x : A) → i < length xs → x ≡ get_or xs i x → p x ≡ true → place_from p i (drop i xs) ≡ Some i
-  place_hit x h r t = step x true h r t
-
-  pub place_miss : (x : A) → i < length xs → x ≡ get_or xs i x → p x ≡ false → place_from p i (drop i xs) ≡ place_from p (i + 1) (drop (i + 1) xs)
-  place_miss x h r f = step x false h r f
-
-  pub place_end : length xs ≤ i → place_from p i (drop i xs) ≡ None
-  place_end h = at_drop_all (place_from p i) xs i h
+  pub position_place : (xs : List A) → position p xs ≡ place p xs
+  position_place xs = grind (arith, place_after 0 xs)
 
 -- a place is found exactly if there is one
 pub place_any : {A : Type 0} (p : A → Bool) (i : ℕ) (xs : List A) → is_some (place_from p i xs) ≡ any p xs

@@ -3,6 +3,7 @@ ghost use Rattle.std.specs.Prelude.{◌≡◌, [], ◌∷◌};
 ghost use Rattle.list.specs.Appended.{Appended};
 
 // The lender has its places back, with what was pushed, when the appender is gone.
+// Places and a count, and no vector: the places are the caller's, since the core has no heap.
 #[derive(Drop)]
 pub struct Appender<'a, T> {
     places: &'a mut [T],

@@ -10,25 +10,11 @@ pub trait Keyed<K> {
         ensures { result ≡ bearer key.now self.now };
 }
 
-// The first place of a record that bears a key.
-fn first_bearer<K, R: Keyed<K>>(records: &[R], key: &K) -> Option<usize>
-    ensures first { result ≡ place (R.bearer key.now) records.now }
-    ensures within { IfSome result (λ i. i < length records.now) }
-    ensures found { is_some result ≡ any (R.bearer key.now) records.now }
-{
-    for (i, record) in records.iter().enumerate() {
-        if record.bears(key) {
-            return Some(i);
-        }
-    }
-    None
-}
-
 // The first place of a record that bears a key; none exactly if no record does.
 pub fn find<K, R: Keyed<K>>(records: &[R], key: &K) -> Option<usize>
     ensures first { result ≡ place (R.bearer key.now) records.now }
     ensures within { IfSome result (λ i. i < length records.now) }
     ensures found { is_some result ≡ any (R.bearer key.now) records.now }
 {
-    first_bearer(records, key)
+    records.iter().position(|record| record.bears(key))
 }

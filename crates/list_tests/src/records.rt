@@ -11,6 +11,7 @@ pub struct Name {
     pub id: u32,
 }
 
+// Its name stays when it has ended: a search has to look at more than the name.
 #[derive(Clone, Copy)]
 pub struct Surface {
     pub live: bool,
@@ -37,10 +38,7 @@ impl Keyed<Name> for Callback {
     ghost bearer = { λ k s. (s.client == k.client) && is_id k.id s.id };
 
     fn bears(&self, key: &Name) -> bool {
-        match self.id {
-            Some(id) => self.client == key.client && id == key.id,
-            None => false,
-        }
+        self.client == key.client && self.id == Some(key.id)
     }
 }
 

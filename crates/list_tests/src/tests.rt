@@ -59,7 +59,7 @@ fn full_lists_stay(rt: HostRuntime) {
     list.push(6);
     list.push(7);
     assert!(rt; list.count() == 2);
-    assert!(rt; places[0] == 5 && places[1] == 6);
+    assert_eq!(rt; places, [5, 6]);
     let mut indices = Indices::new();
     for i in 0..40u8 {
         indices.push(i);

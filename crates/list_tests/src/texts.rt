@@ -11,17 +11,11 @@ pub struct Global {
     pub version: u32,
 }
 
-fn is_same(a: &[u8], b: &[u8]) -> bool
-    ensures { result ≡ bytes_eq a.now b.now }
-{
-    a == b
-}
-
 impl<'k> Keyed<&'k [u8]> for Global {
     ghost bearer = { λ k s. bytes_eq s.name.now k.now };
 
     fn bears(&self, key: &&'k [u8]) -> bool {
-        is_same(self.name, *key)
+        self.name == *key
     }
 }
 

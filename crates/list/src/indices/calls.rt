@@ -25,7 +25,7 @@ impl Indices {
     pub fn as_slice(&self) -> &[u8]
         ensures { result.now ≡ elements self.now }
     {
-        &self.places[0..self.count]
+        &self.places[..self.count]
     }
 
     // One more at the end; a full list stays as it is.
