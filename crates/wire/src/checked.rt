@@ -6,7 +6,7 @@ ghost use Rattle.model.specs.Request.{request_of};
 ghost use Rattle.model.specs.Word.{words};
 
 use super::decode::decode_request;
-use super::word::word_at;
+use super::word::chunks;
 use model::{Fault, Header, Interface, Request};
 
 // What it asks for depends on the interface of its object, which is not known here.
@@ -41,7 +41,9 @@ impl CheckedMessage<'_> {
     pub fn argument_word(&self, i: usize) -> Option<u32>
         ensures { result ≡ slice_get (words self.now.body.now) i }
     {
-        word_at(self.body, i)
+        chunks(self.body)
+            .get(i)
+            .map(|chunk| u32::from_le_bytes(*chunk))
     }
 
     // What it asks for, where its object has that interface.

@@ -1,18 +1,11 @@
 // What an opcode and its arguments ask for, interface by interface.
 ghost use Rattle.std.specs.Prelude.{◌≡◌};
 ghost use Rattle.model.specs.Asked.{in_numbers, asked};
-ghost use Rattle.model.specs.Request.{request_of, surface_request as of_surface, subsurface_request as of_subsurface};
+ghost use Rattle.model.specs.Request.{request_of, optional_id as optional, surface_request as of_surface, subsurface_request as of_subsurface};
 ghost use Rattle.model.specs.Word.{words};
 
 use super::word::{arguments, to_int};
-use model::{Fault, Interface, Request};
-
-// The interface lists no such opcode.
-const UNLISTED: Fault = Fault {
-    number: 6,
-    station: 3,
-    word: 1,
-};
+use model::{Fault, Interface, Refusal, Request};
 
 // What is asked of an object with that interface, as a request and in numbers.
 pub(crate) fn decode_request(
@@ -26,7 +19,7 @@ pub(crate) fn decode_request(
     request_for(interface, opcode, body)
 }
 
-// As a request alone: that it is the same in numbers is shown once, above.
+// As a request alone: that it is the same in numbers is shown once, above, and not at each opcode.
 fn request_for(interface: Interface, opcode: u16, body: &[u8]) -> Result<Request, Fault>
     ensures { result ≡ request_of interface opcode (words body.now) }
 {
@@ -49,8 +42,15 @@ fn request_for(interface: Interface, opcode: u16, body: &[u8]) -> Result<Request
             let [] = arguments::<0>(body)?;
             Ok(Request::BufferDestroy)
         }
-        _ => Err(UNLISTED),
+        _ => Err(Refusal::UnlistedOpcode.into()),
     }
+}
+
+// An id, or none, which is 0.
+fn optional_id(word: u32) -> Option<u32>
+    ensures { result ≡ optional word }
+{
+    (word != 0).then_some(word)
 }
 
 fn surface_request(opcode: u16, body: &[u8]) -> Result<Request, Fault>
@@ -64,7 +64,7 @@ fn surface_request(opcode: u16, body: &[u8]) -> Result<Request, Fault>
         1 => {
             let [buffer, x, y] = arguments::<3>(body)?;
             Ok(Request::Attach {
-                buffer,
+                buffer: optional_id(buffer),
                 x: to_int(x),
                 y: to_int(y),
             })
@@ -86,7 +86,7 @@ fn surface_request(opcode: u16, body: &[u8]) -> Result<Request, Fault>
             let [] = arguments::<0>(body)?;
             Ok(Request::Commit)
         }
-        _ => Err(UNLISTED),
+        _ => Err(Refusal::UnlistedOpcode.into()),
     }
 }
 
@@ -121,6 +121,6 @@ fn subsurface_request(opcode: u16, body: &[u8]) -> Result<Request, Fault>
             let [] = arguments::<0>(body)?;
             Ok(Request::SetDesync)
         }
-        _ => Err(UNLISTED),
+        _ => Err(Refusal::UnlistedOpcode.into()),
     }
 }

@@ -4,14 +4,7 @@ ghost use Rattle.std.specs.Result.{result_map_both};
 ghost use Rattle.model.specs.Message.{header_of, body_of, header_answer};
 
 use super::checked::CheckedMessage;
-use model::{Fault, Header};
-
-// There is no header, or it says another size.
-const BAD_HEADER: Fault = Fault {
-    number: 4,
-    station: 3,
-    word: 0,
-};
+use model::{Fault, Header, Refusal};
 
 // Borrows its bytes until it is carried out or let go. No copy can be made, so it is carried out once.
 #[derive(Drop)]
@@ -65,11 +58,9 @@ fn split_header(bytes: &[u8]) -> (Option<Header>, &[u8])
 fn check_header(header: Option<Header>, body: &[u8]) -> Result<Header, Fault>
     ensures { result ≡ header_answer header body.now }
 {
-    let Some(header) = header else {
-        return Err(BAD_HEADER);
-    };
-    if header.size as usize != body.len() + 8 || header.size % 4 != 0 {
-        return Err(BAD_HEADER);
+    let header = header.ok_or(Refusal::BadHeader)?;
+    if usize::from(header.size) != body.len() + 8 || header.size % 4 != 0 {
+        return Err(Refusal::BadHeader.into());
     }
     Ok(header)
 }

@@ -1,55 +1,37 @@
 // The words of a message, each of four bytes.
-ghost use Rattle.std.specs.Prelude.{◌≡◌, ◌/◌, ◌<◌, length};
-ghost use Rattle.std.specs.List.{slice_get};
+ghost use Rattle.std.specs.Prelude.{◌≡◌, map};
+ghost use Rattle.std.specs.Int.{w32, from_le_bytes};
 ghost use Rattle.model.specs.Request.{exactly, fitting};
-ghost use Rattle.model.specs.Word.{word, words, int};
+ghost use Rattle.model.specs.Word.{words, int};
 
-use model::Fault;
+use model::{Fault, Refusal};
 
-// The arguments are not as many as the request takes.
-const BAD_ARGUMENTS: Fault = Fault {
-    number: 7,
-    station: 3,
-    word: 1,
-};
-
-// The signed number that a word stands for.
+// The signed number that a word stands for: the cast, said once in the words that requests are described by.
 pub(crate) fn to_int(word: u32) -> i32
     ensures { result ≡ int word }
 {
     word.cast_signed()
 }
 
-// The word at place `i`.
-fn read_word(bytes: &[u8], i: usize) -> u32
-    requires { i < length bytes.now / 4 }
-    ensures { result ≡ word bytes.now i }
+// The bytes of the words of which all four are there.
+pub(crate) fn chunks(bytes: &[u8]) -> &[[u8; 4]]
+    ensures { map (from_le_bytes w32) result.now ≡ words bytes.now }
 {
-    let at = 4 * i;
-    u32::from_le_bytes([bytes[at], bytes[at + 1], bytes[at + 2], bytes[at + 3]])
-}
-
-// The word at place `i`, if all four of its bytes are there.
-pub(crate) fn word_at(bytes: &[u8], i: usize) -> Option<u32>
-    ensures { result ≡ slice_get (words bytes.now) i }
-{
-    if i < bytes.len() / 4 {
-        Some(read_word(bytes, i))
-    } else {
-        None
-    }
+    let (chunks, _) = bytes.as_chunks();
+    chunks
 }
 
 // The words of a body that has `N` of them, as the request takes.
 pub(crate) fn arguments<const N: usize>(body: &[u8]) -> Result<[u32; N], Fault>
     ensures { result ≡ fitting (exactly N (words body.now)) (words body.now) }
 {
-    if body.len() / 4 != N {
-        return Err(BAD_ARGUMENTS);
+    let chunks = chunks(body);
+    if chunks.len() != N {
+        return Err(Refusal::BadArguments.into());
     }
     let mut words = [0; N];
-    for (i, word) in words.iter_mut().enumerate() {
-        *word = read_word(body, i);
+    for (i, chunk) in chunks.iter().enumerate() {
+        words[i] = u32::from_le_bytes(*chunk);
     }
     Ok(words)
 }

@@ -1,5 +1,5 @@
 // Messages that are refused.
-use crate::answer::number;
+use crate::answer::{BAD_ARGUMENTS, BAD_HEADER, UNLISTED_OPCODE, refusal};
 use model::Interface;
 use std::test::Fail;
 
@@ -7,9 +7,12 @@ const ATTACH: [u8; 20] = [7, 0, 0, 0, 1, 0, 20, 0, 10, 0, 0, 0, 0, 0, 0, 0, 0, 0
 
 #[test]
 fn cut_at_each_length(rt: HostRuntime) {
-    assert!(rt; number(&ATTACH, Interface::Surface) == 0);
+    assert_eq!(rt; refusal(&ATTACH, Interface::Surface), None);
     for length in 0..20usize {
-        assert!(rt; number(&ATTACH[0..length], Interface::Surface) == 4);
+        assert_eq!(rt;
+            refusal(&ATTACH[..length], Interface::Surface),
+            Some(BAD_HEADER)
+        );
     }
 }
 
@@ -18,7 +21,7 @@ fn another_size(rt: HostRuntime) {
     for size in [19, 21, 16, 24] {
         let mut bytes = ATTACH;
         bytes[6] = size;
-        assert!(rt; number(&bytes, Interface::Surface) == 4);
+        assert_eq!(rt; refusal(&bytes, Interface::Surface), Some(BAD_HEADER));
     }
 }
 
@@ -26,7 +29,10 @@ fn another_size(rt: HostRuntime) {
 #[test]
 fn of_65536_bytes(rt: HostRuntime) -> Result<(), Fail> {
     let bytes = vec![in rt.alloc(); 0; 65536]?;
-    assert!(rt; number(bytes.as_slice(), Interface::Surface) == 4);
+    assert_eq!(rt;
+        refusal(bytes.as_slice(), Interface::Surface),
+        Some(BAD_HEADER)
+    );
     Ok(())
 }
 
@@ -34,11 +40,17 @@ fn of_65536_bytes(rt: HostRuntime) -> Result<(), Fail> {
 fn unlisted(rt: HostRuntime) {
     for opcode in 0..=255u8 {
         let bytes = [1, 0, 0, 0, opcode, 0, 8, 0];
-        assert!(rt; number(&bytes, Interface::Display) == 6);
-        assert!(rt; number(&bytes, Interface::Callback) == 6);
+        assert_eq!(rt; refusal(&bytes, Interface::Display), Some(UNLISTED_OPCODE));
+        assert_eq!(rt; refusal(&bytes, Interface::Callback), Some(UNLISTED_OPCODE));
     }
-    assert!(rt; number(&[7, 0, 0, 0, 5, 0, 8, 0], Interface::Surface) == 6);
-    assert!(rt; number(&[7, 0, 0, 0, 6, 1, 8, 0], Interface::Surface) == 6);
+    assert_eq!(rt;
+        refusal(&[7, 0, 0, 0, 5, 0, 8, 0], Interface::Surface),
+        Some(UNLISTED_OPCODE)
+    );
+    assert_eq!(rt;
+        refusal(&[7, 0, 0, 0, 6, 1, 8, 0], Interface::Surface),
+        Some(UNLISTED_OPCODE)
+    );
 }
 
 // Each opcode with no to five words of arguments: all but the number that it takes are refused.
@@ -66,8 +78,8 @@ fn arguments_that_do_not_fit(rt: HostRuntime) {
             let mut bytes = [0; 28];
             bytes[4] = opcode;
             bytes[6] = size;
-            let answer = number(&bytes[0..size as usize], interface);
-            assert!(rt; answer == if count == words { 0 } else { 7 });
+            let answer = refusal(&bytes[..usize::from(size)], interface);
+            assert_eq!(rt; answer, (count != words).then_some(BAD_ARGUMENTS));
         }
     }
 }

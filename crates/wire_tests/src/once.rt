@@ -7,10 +7,13 @@ use wire::Message;
 fn again(rt: HostRuntime) {
     let mut bytes = [7, 0, 0, 0, 6, 0, 8, 0];
     let first = Message::read(&bytes);
-    assert!(rt; carry_out(first, Interface::Surface) == Ok(Request::Commit));
+    assert_eq!(rt; carry_out(first, Interface::Surface), Ok(Request::Commit));
     let same = Message::read(&bytes);
-    assert!(rt; carry_out(same, Interface::Surface) == Ok(Request::Commit));
+    assert_eq!(rt; carry_out(same, Interface::Surface), Ok(Request::Commit));
     bytes[4] = 0;
     let other = Message::read(&bytes);
-    assert!(rt; carry_out(other, Interface::Surface) == Ok(Request::SurfaceDestroy));
+    assert_eq!(rt;
+        carry_out(other, Interface::Surface),
+        Ok(Request::SurfaceDestroy)
+    );
 }

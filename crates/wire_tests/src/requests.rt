@@ -1,6 +1,5 @@
 // What whole messages ask for.
-use crate::answer::carry_out;
-use model::{Interface, Request};
+use model::{Fault, Interface, Request};
 use std::process::Abort;
 use std::test::Fail;
 use wire::Message;
@@ -13,14 +12,15 @@ struct Case<'a> {
     request: Request,
 }
 
+fn whole_refused(_: Fault) -> Fail {
+    Fail::new("a whole message was refused")
+}
+
 fn all_ask(rt: &impl Abort, cases: &[Case<'_>]) -> Result<(), Fail> {
     for case in cases {
-        match Message::read(case.bytes).check() {
-            Ok(message) => assert!(rt; message.object() == case.object),
-            Err(_) => return Err(Fail::new("a whole message was refused")),
-        }
-        let answer = carry_out(Message::read(case.bytes), case.interface);
-        assert!(rt; answer == Ok(case.request));
+        let message = Message::read(case.bytes).check().map_err(whole_refused)?;
+        assert_eq!(rt; message.object(), case.object);
+        assert_eq!(rt; message.decode(case.interface), Ok(case.request));
     }
     Ok(())
 }
@@ -66,7 +66,7 @@ fn with_signed_numbers(rt: HostRuntime) -> Result<(), Fail> {
                 object: 7,
                 interface: Interface::Surface,
                 request: Request::Attach {
-                    buffer: 10,
+                    buffer: Some(10),
                     x: 0,
                     y: 0,
                 },
@@ -98,14 +98,13 @@ fn with_signed_numbers(rt: HostRuntime) -> Result<(), Fail> {
 // What can be listed of a message without its interface.
 #[test]
 fn listed(rt: HostRuntime) -> Result<(), Fail> {
-    match Message::read(b"\x08\0\0\0\x01\0\x10\0\x00\xc0\xff\xff\x00\x40\0\0").check() {
-        Ok(message) => {
-            assert!(rt; message.opcode() == 1 && message.size() == 16);
-            assert!(rt; message.argument_word(0) == Some(0xffff_c000));
-            assert!(rt; message.argument_word(1) == Some(0x4000));
-            assert!(rt; message.argument_word(2) == None);
-            Ok(())
-        }
-        Err(_) => Err(Fail::new("a whole message was refused")),
-    }
+    let message = Message::read(b"\x08\0\0\0\x01\0\x10\0\x00\xc0\xff\xff\x00\x40\0\0")
+        .check()
+        .map_err(whole_refused)?;
+    assert_eq!(rt; message.opcode(), 1);
+    assert_eq!(rt; message.size(), 16);
+    assert_eq!(rt; message.argument_word(0), Some(0xffff_c000));
+    assert_eq!(rt; message.argument_word(1), Some(0x4000));
+    assert_eq!(rt; message.argument_word(2), None);
+    Ok(())
 }

@@ -1,29 +1,26 @@
-use Rattle.std.proofs.Common.{◌≡◌, ◌<◌, true, eqb, length, get_or, set, sym, ◌∙◌, subst, arith, rules}
+use Rattle.std.proofs.Common.{◌≡◌, ◌<◌, true, eqb, length, [], get_or, set, sym, ap, ◌∙◌, subst, arith, rules, w32}
+use Rattle.std.specs.Int.{from_le_bytes}
+use Rattle.std.proofs.lemmas.List.{ext_get_or, get_or-map, length-map}
 use Rattle.std.proofs.lemmas.List.Edits.{fill_by_more}
-use Rattle.std.proofs.lemmas.List.{length-replicate}
 use Rattle.std.proofs.lemmas.Bool.{eq-eqb}
-use Rattle.model.specs.Word.{word, words}
-use Rattle.model.proofs.Words.{length_words, words_all}
+use Rattle.model.specs.Word.{words}
 use Rattle.wire.proofs.word.arguments.Goals as goal
-
-pub returns-then-body : goal.returns-then-body
-returns-then-body g c = search (rules, length_words)
-
-pub loop-i-init : goal.loop-i-init
-loop-i-init g c = (length-replicate g.row.N 0, λ k h. omega arith)
 
 pub loop-i-preserved : goal.loop-i-preserved
 loop-i-preserved g c =
-    let bytes = c.args.body.now in
-    let items = c.loop-i.word-items in
-    let low : c.loop-i.i < length items = omega arith in (
+    let chunks = c.chunks-chunks.result.now in
+    let all = words c.args.body.now in
+    let i = c.loop-i.i in
+    let low : i < length c.loop-i.words = omega arith in
+    let here : c.from_le_bytes.result ≡ get_or all i 0 = c.from_le_bytes.ensures ∙ sym (get_or-map (from_le_bytes w32) chunks i [] 0 c.loop-i-test.true) ∙ ap (λ l. get_or l i 0) c.chunks-chunks.ensures in (
       search rules,
-      λ k h. subst (λ v. get_or (set items c.loop-i.i v) k 0 ≡ word bytes k) (sym c.read_word.ensures) (fill_by_more (word bytes) items c.loop-i.i 0 low c.loop-i.invariant.1 k h),
+      λ k h. subst (λ v. get_or (set c.loop-i.words i v) k 0 ≡ get_or all k 0) (sym here) (fill_by_more (λ k. get_or all k 0) c.loop-i.words i 0 low c.loop-i.invariant.1 k h),
     )
 
 pub returns : goal.returns
 returns g c =
-    let bytes = c.args.body.now in
-    let all : c.loop-i.word-items ≡ words bytes = words_all bytes c.loop-i.word-items (c.loop-i.invariant.0 ∙ sym c.if-body.false) (λ k h. c.loop-i.invariant.1 k (omega arith)) in
-    let long : eqb (length (words bytes)) g.row.N ≡ true = eq-eqb (length (words bytes)) g.row.N (length_words bytes ∙ c.if-body.false) in
-    rw (all, long)
+    let all = words c.args.body.now in
+    let count : length all ≡ g.row.N = sym (ap length c.chunks-chunks.ensures) ∙ length-map c.chunks-chunks.result.now (from_le_bytes w32) ∙ c.if-chunks.false in
+    let same : c.loop-i.words ≡ all = ext_get_or 0 c.loop-i.words all (c.loop-i.invariant.0 ∙ sym count) (λ k h. c.loop-i.invariant.1 k (omega arith)) in
+    let long : eqb (length all) g.row.N ≡ true = eq-eqb (length all) g.row.N count in
+    rw (same, long)
