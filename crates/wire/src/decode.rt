@@ -7,7 +7,8 @@ ghost use Rattle.model.specs.Word.{words};
 use super::word::{arguments, to_int};
 use model::{Fault, Interface, Refusal, Request};
 
-// What is asked of an object with that interface, as a request and in numbers.
+// What is asked of an object with that interface, as a request and in numbers. Opcode and body are parameters, here and below,
+// and no method of the checked message is: behind its field a proof does not know the range of the bytes, which `numbers` needs.
 pub(crate) fn decode_request(
     interface: Interface,
     opcode: u16,
