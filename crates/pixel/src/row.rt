@@ -8,8 +8,10 @@ use model::Element;
 pub fn draw_row(to: &mut [u32], from: &[u32], e: &Element)
     ensures { RowDrawn e.now from.now to.old to.new }
 {
-    let count = to.len().min(from.len());
-    for i in 0..count {
-        to[i] = lay(e, from[i], to[i]);
+    // No zip of the two: of what was written through an adapter of `iter_mut`, nothing can be proved.
+    for (i, below) in to.iter_mut().enumerate() {
+        if let Some(pixel) = from.get(i) {
+            *below = lay(e, *pixel, *below);
+        }
     }
 }
