@@ -1,11 +1,9 @@
 -- One row of an element drawn: what a frame's pixel is then.
-use Rattle.std.proofs.Common.{◌≡◌, ℕ, ◌+◌, ◌-◌, ◌*◌, ◌<◌, ◌≤◌, true, false, cond, ◌&&◌, eqb, ltb, leb, List, length, get_or, take, sym, ap, ◌∙◌, ⊎_elim, arith}
-use Rattle.std.proofs.lemmas.List.Sums.{fold_more}
+use Rattle.std.proofs.Common.{◌≡◌, ℕ, ◌+◌, ◌-◌, ◌*◌, ◌<◌, ◌≤◌, true, false, cond, ◌&&◌, eqb, ltb, leb, List, get_or, sym, ap, ◌∙◌, ⊎_elim, arith}
 use Rattle.std.proofs.lemmas.Bool.{cases_Bool, cond-true, cond-false}
 use Rattle.std.proofs.lemmas.Bool.Decides.{nat_tests}
 use Rattle.model.specs.declared.element.Element.{Element}
-use Rattle.model.specs.Pixel.{black}
-use Rattle.model.specs.Scene.{inside, offset, laid, source, drawn, picture}
+use Rattle.model.specs.Scene.{inside, offset, laid, source}
 use Rattle.raster.specs.Clip.{Clipped}
 
 module _ (e : Element) (m part : List ℕ) {w h fx sx cx fy sy cy : ℕ} (across : Clipped e.x e.width w fx sx cx) (down : Clipped e.y e.height h fy sy cy) (row n x y old v v' : ℕ) (hx : x < w) (hy : y < h) where
@@ -38,8 +36,3 @@ module _ (e : Element) (m part : List ℕ) {w h fx sx cx fy sy cy : ℕ} (across
       let same : (inside e.x e.width x && (leb fy y && ltb y (fy + row))) ≡ (inside e.x e.width x && (leb fy y && ltb y (fy + (row + 1)))) = rw is (grind (arith, nat_tests)) in
       after ∙ cond-false now-in _ _ f ∙ before ∙ ap (λ b. cond b (laid e (get_or m (source e x y) 0) old) old) same)
       (cases_Bool now-in)
-
--- one element more
-pub picture_more : (m : List ℕ) (es : List Element) (k x y v v' : ℕ) (d : Element) → k < length es → v ≡ picture (take k es) m x y → v' ≡ drawn m x y v (get_or es k d) → v' ≡ picture (take (k + 1) es) m x y
-picture_more m es k x y v v' d h before after =
-    after ∙ ap (λ u. drawn m x y u (get_or es k d)) before ∙ sym (fold_more (drawn m x y) black es k d h)

@@ -46,11 +46,3 @@ module _ (w y x n m : ℕ) (xs ys : List ℕ) (f : ℕ → ℕ → ℕ) (same : 
   row_written =
       let b = eqb j y && (leb x i && ltb i (x + n)) in
       get_or_put_mid (y * w + x) m xs ys (omega arith) long (j * w + i) ∙ ap (λ t. cond t (get_or ys (j * w + i - (y * w + x)) 0) (get_or xs (j * w + i) 0)) (ap (λ v. leb (y * w + x) (j * w + i) && ltb (j * w + i) (y * w + x + v)) same ∙ in_row w y x n j i wide inw) ∙ ⊎_elim (λ t. cond-true b _ _ t ∙ hit t ∙ sym (cond-true b _ _ t)) (λ u. cond-false b _ _ u ∙ sym (cond-false b _ _ u)) (cases_Bool b)
-
--- row r of a span and the columns up to c of it lie in the span
-pub in_span : (first stride height r c n : ℕ) → r < height → c ≤ stride → first + stride * height ≤ n → first + r * stride + c ≤ n
-in_span first stride height r c n below narrow fits = omega (arith, mul-le (r + 1) stride height stride (omega arith) (omega arith))
-
--- row r of a frame lies in it
-pub in_frame : (w h r n : ℕ) → r < h → n ≡ w * h → r * w + w ≤ n
-in_frame w h r n below is = omega (arith, mul-le (r + 1) w h w (omega arith) (omega arith))

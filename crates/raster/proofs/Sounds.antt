@@ -1,6 +1,7 @@
 -- Scenes all of whose elements are sound.
-use Rattle.std.proofs.Common.{◌≡◌, ℕ, zero, suc, ◌+◌, ◌<◌, true, ◌&&◌, List, [], ◌∷◌, length, get_or, drop, arith}
-use Rattle.std.proofs.lemmas.List.{at_drop_more}
+use Rattle.std.proofs.Common.{◌≡◌, ℕ, zero, suc, ◌<◌, true, ◌&&◌, List, [], ◌∷◌, length, get_or, refl, arith}
+use Rattle.std.specs.List.{list_all}
+use Rattle.std.proofs.lemmas.List.Recursion.{same_from_clauses}
 use Rattle.std.proofs.lemmas.Bool.{and_parts}
 use Rattle.std.proofs.lemmas.Bool.Decides.{nat_tests}
 use Rattle.model.specs.declared.element.Element.{Element}
@@ -25,5 +26,5 @@ all_sound_at n [] k d h t = absurd (omega arith)
 all_sound_at n (e ∷ es) zero d h t = sound_parts n e (and_parts (sound n e) (all_sound n es) t).0
 all_sound_at n (e ∷ es) (suc k) d h t = all_sound_at n es k d (omega arith) (and_parts (sound n e) (all_sound n es) t).1
 
-pub all_sound_more : (n : ℕ) (es : List Element) (k : ℕ) (d : Element) → k < length es → all_sound n (drop k es) ≡ (sound n (get_or es k d) && all_sound n (drop (k + 1) es))
-all_sound_more n es k d h = at_drop_more (all_sound n) es k d h
+pub all_sound_is : (n : ℕ) (es : List Element) → list_all (sound n) es ≡ all_sound n es
+all_sound_is n es = same_from_clauses (list_all (sound n)) (all_sound n) (λ e rest. sound n e && rest) refl (λ _ _. refl) (λ _ _. refl) es

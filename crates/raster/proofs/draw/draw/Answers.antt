@@ -1,7 +1,6 @@
-use Rattle.std.proofs.Common.{◌≡◌, ◌+◌, ◌∙◌, arith, w32, SFits, rules}
+use Rattle.std.proofs.Common.{◌≡◌, arith, w32, SFits, rules}
 use Rattle.std.proofs.lemmas.Int.{to_z-of_z}
 use Rattle.raster.proofs.Drawing.{row_drawn}
-use Rattle.raster.proofs.Rows.{in_frame}
 use Rattle.raster.proofs.draw.draw.Goals as goal
 
 pub loop-row-preserved : goal.loop-row-preserved
@@ -11,11 +10,7 @@ loop-row-preserved c x y hx hy =
     let fy : SFits w32 e.y = search rules in
     let across = simp to_z-of_z at c.clip-across.ensures in
     let down = simp to_z-of_z at c.clip-down.ensures in
-    row_drawn e c.args.memory.now c.span_row-from.result.now across down c.loop-row.row _ x y _ _ _ hx hy c.loop-row-test.true c.span_row-from.ensures.size c.span_row-from.ensures.pixels (c.loop-row.invariant x y hx hy) (c.put_row.ensures x y hx)
-
-pub put_row-requires : goal.put_row-requires
-put_row-requires c =
-    (omega (arith, c.span_row-from.ensures.size), in_frame c.args.w c.args.h (c.clip-down.result.from + c.loop-row.row) _ (omega arith) (c.loop-row.auto.frame ∙ c.requires.0))
+    row_drawn e c.args.memory.now c.span_row-from.result.now across down c.loop-row.row _ x y _ _ _ hx hy c.loop-row-test.true c.span_row-from.ensures.size c.span_row-from.ensures.pixels (c.loop-row.invariant x y hx hy) (c.put_row.ensures x y hx hy)
 
 pub returns : goal.returns
 returns c x y hx hy =
