@@ -1,2 +1,1 @@
 pub mod Showings
-pub mod Readings

@@ -26,11 +26,11 @@ read scene = scene
 -- the glass is the picture of the scene with the memory m, for every memory that is equal to m where it may still be read
 abbrev pub Shows : Glass → Size → List Element → List ℕ → Type 0
 Shows glass size scene m =
-    (other : List ℕ) → AllByRecursion (SameOn other m) (read scene) → Everywhere size.width size.height (λ x y. glass other x y ≡ picture scene m x y)
+    (other : List ℕ) → AllByRecursion (SameOn other m) (read scene) → Everywhere size (λ x y. glass other x y ≡ picture scene m x y)
 
 -- the glass is black, for every memory
 abbrev pub Black : Glass → Size → Type 0
-Black glass size = (other : List ℕ) → Everywhere size.width size.height (λ x y. glass other x y ≡ black)
+Black glass size = (other : List ℕ) → Everywhere size (λ x y. glass other x y ≡ black)
 
 -- what is left of a presenter p that was to be lit and then to show a scene, where lighting was accepted or not
 abbrev pub LitAndShown : {P : Type 0} → (P → Act → P → Type 0) → Bool → P → List Element → List ℕ → P → Type 0

@@ -2,22 +2,24 @@
 ghost use Rattle.std.specs.Prelude.{◌≡◌, length};
 ghost use Rattle.model.specs.Output.{on_answer, show_answer};
 
-use model::{Element, Fault, Size};
+use model::{Element, Fault, Refusal, Size};
 use raster::are_sound;
 
-// The station of every check that an output makes.
-const OUTPUT: u32 = 9;
+// Most elements in a scene.
+const MOST_ELEMENTS: usize = 32;
+
+// The size of an output that cannot be switched on.
+const NO_SIZE: Size = Size {
+    width: 0,
+    height: 0,
+};
 
 // Whether an output of this size can be switched on.
 pub fn check_switch_on(size: Size) -> Result<(), Fault>
     ensures { result ≡ on_answer size }
 {
-    if size.width == 0 && size.height == 0 {
-        return Err(Fault {
-            number: 19,
-            station: OUTPUT,
-            word: 0,
-        });
+    if size == NO_SIZE {
+        return Err(Refusal::NoSize.into());
     }
     Ok(())
 }
@@ -27,18 +29,10 @@ pub fn check_show(lit: bool, scene: &[Element], pixels: usize) -> Result<(), Fau
     ensures { result ≡ show_answer lit scene.now pixels }
 {
     if !lit {
-        return Err(Fault {
-            number: 17,
-            station: OUTPUT,
-            word: 0,
-        });
+        return Err(Refusal::Dark.into());
     }
-    if scene.len() > 32 || !are_sound(scene, pixels) {
-        return Err(Fault {
-            number: 18,
-            station: OUTPUT,
-            word: 0,
-        });
+    if scene.len() > MOST_ELEMENTS || !are_sound(scene, pixels) {
+        return Err(Refusal::BadScene.into());
     }
     Ok(())
 }

@@ -13,21 +13,22 @@ pub trait Readback: Presenter {
 }
 
 // Copies the whole glass into `pixels`, row by row; a dark presenter, or another number of pixels, leaves them as they are.
+// It answers whether it did, and makes no list of pixels: presenters are used where there is no heap.
 pub fn read_glass<P: Readback>(p: &P, memory: &[u32], pixels: &mut [u32]) -> bool
     ensures reads { result ≡ readable (P.Presenter.lit p.now) (P.Presenter.extent p.now) (length pixels.old) }
-    ensures pixels { pixels.new ≡ (if result then raster (P.Presenter.extent p.now).width (P.Presenter.extent p.now).height (P.Presenter.glass p.now memory.now) else pixels.old) }
+    ensures pixels { pixels.new ≡ (if result then raster (P.Presenter.extent p.now) (P.Presenter.glass p.now memory.now) else pixels.old) }
 {
     let size = p.size();
     let width = size.width as usize;
-    let height = size.height as usize;
-    if !p.is_lit() || pixels.len() != width * height {
+    if !p.is_lit() || pixels.len() != width * size.height as usize {
         return false;
     }
-    for i in 0..pixels.len() {
-        let x = (i % width) as u32;
-        let y = (i / width) as u32;
+    // By place, not by the rows of `chunks_exact_mut`: of what was written through those, nothing can be proved.
+    for (place, pixel) in pixels.iter_mut().enumerate() {
+        let x = (place % width) as u32;
+        let y = (place / width) as u32;
         // A lit output has every pixel of its size.
-        pixels[i] = p.pixel(x, y, memory).unwrap_or(0);
+        *pixel = p.pixel(x, y, memory).unwrap();
     }
     true
 }
