@@ -10,11 +10,11 @@ use Rattle.raster.specs.Raster.{at, raster}
 use Rattle.present.specs.Showing.{Glass, Act, switched_off, switched_on, showed}
 
 abbrev pub composer_size : Composer → Size
-composer_size c = extent c.width c.height (length c.frame.now)
+composer_size c = extent c.size (length c.frame.now)
 
 -- the frame memory, whatever the pixel memory holds
 abbrev pub composer_glass : Composer → Glass
-composer_glass c _ x y = at c.width c.frame.now x y
+composer_glass c _ x y = at c.size.width c.frame.now x y
 
 -- whether a dark composer is lit by switching it on
 abbrev pub lights : Composer → Bool
@@ -25,7 +25,7 @@ abbrev pub frame_after : Composer → Act → List ℕ
 frame_after c switched_off = c.frame.now
 frame_after c switched_on = cond (lights c) (blackened c.frame.now) c.frame.now
 frame_after c (showed scene m) =
-    cond (accepted (show_answer c.lit scene (length m))) (painted c.width c.height c.frame.now scene m) c.frame.now
+    cond (accepted (show_answer c.lit scene (length m))) (painted c.size c.frame.now scene m) c.frame.now
 
 abbrev pub lit_after : Composer → Act → Bool
 lit_after c switched_off = false
@@ -35,16 +35,15 @@ lit_after c (showed scene m) = c.lit
 -- d is the composer c after an act, over the same lent frame memory
 pub record ComposerLeft (c : Composer) (act : Act) (d : Composer) : Type 0 where
   pub lender : d.frame.ghost_name ≡ c.frame.ghost_name
-  pub width : d.width ≡ c.width
-  pub height : d.height ≡ c.height
+  pub size : d.size ≡ c.size
   pub frame : d.frame.now ≡ frame_after c act
   pub lit : d.lit ≡ lit_after c act
 
--- what is answered where a composer with sides w and h over a frame memory of n pixels is lit and is to show a scene with a pixel memory of k pixels
-abbrev pub compose_answer : ℕ → ℕ → ℕ → List Element → ℕ → Answer
-compose_answer w h n scene k = then (cond (fits w h n) (Ok tt) (output_fault 19)) (show_answer true scene k)
+-- what is answered where a composer of a size over a frame memory of n pixels is lit and is to show a scene with a pixel memory of k pixels
+abbrev pub compose_answer : Size → ℕ → List Element → ℕ → Answer
+compose_answer size n scene k = then (cond (fits size n) (Ok tt) (output_fault 19)) (show_answer true scene k)
 
 -- what the frame memory holds then
-abbrev pub composed : ℕ → ℕ → List ℕ → List Element → List ℕ → List ℕ
-composed w h frame scene m =
-    cond (fits w h (length frame)) (cond (showable scene (length m)) (raster w h (picture scene m)) (blackened frame)) frame
+abbrev pub composed : Size → List ℕ → List Element → List ℕ → List ℕ
+composed size frame scene m =
+    cond (fits size (length frame)) (cond (showable scene (length m)) (raster size (picture scene m)) (blackened frame)) frame

@@ -6,31 +6,18 @@ use super::composer::Composer;
 use model::{Element, Fault, Size};
 use present::first_frame;
 
-// Lights a composer over a frame memory, shows a scene on it and lets it go.
-fn compose_sides(
-    frame: &mut [u32],
-    width: u32,
-    height: u32,
-    scene: &[Element],
-    memory: &[u32],
-) -> Result<(), Fault>
-    ensures answer { result ≡ compose_answer width height (length frame.old) scene.now (length memory.now) }
-    ensures frame { frame.new ≡ composed width height frame.old scene.now memory.now }
-{
-    let mut composer = Composer::new(frame, width, height);
-    first_frame(&mut composer, scene, memory)
-}
-
 // Draws a scene into a frame memory by a composer. The lender finds the picture in its memory; black, where the scene was
 // refused; or all as it was, where the memory does not fit the size.
+#[tactic(auto, using(raster::proofs::Frames::on_fits))]
 pub fn compose(
     frame: &mut [u32],
     size: Size,
     scene: &[Element],
     memory: &[u32],
 ) -> Result<(), Fault>
-    ensures answer { result ≡ compose_answer size.width size.height (length frame.old) scene.now (length memory.now) }
-    ensures frame { frame.new ≡ composed size.width size.height frame.old scene.now memory.now }
+    ensures answer { result ≡ compose_answer size (length frame.old) scene.now (length memory.now) }
+    ensures frame { frame.new ≡ composed size frame.old scene.now memory.now }
 {
-    compose_sides(frame, size.width, size.height, scene, memory)
+    let mut composer = Composer::new(frame, size);
+    first_frame(&mut composer, scene, memory)
 }
