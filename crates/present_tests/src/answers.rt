@@ -2,7 +2,6 @@
 use composer::{Composer, compose};
 use model::{Element, Fault, Size};
 use present::Presenter;
-use std::test::Fail;
 
 const GOOD: Element = Element {
     x: 0,
@@ -14,59 +13,60 @@ const GOOD: Element = Element {
     format: 0,
 };
 
-// The number of the refusal, or 0.
-fn number(answer: Result<(), Fault>) -> u32 {
-    match answer {
-        Ok(_) => 0,
-        Err(fault) => fault.number,
-    }
+const PIXEL: Size = Size {
+    width: 1,
+    height: 1,
+};
+
+// What an output answers that refuses.
+fn refused(number: u32) -> Result<(), Fault> {
+    Err(Fault {
+        number,
+        station: 9,
+        word: 0,
+    })
 }
 
 // What showing one element with a pixel memory of four pixels is answered.
-fn showing(element: Element) -> u32 {
-    let mut frame = [0; 1];
-    number(compose(
-        &mut frame,
-        Size {
-            width: 1,
-            height: 1,
-        },
-        &[element],
-        &[0; 4],
-    ))
+fn showing(element: Element) -> Result<(), Fault> {
+    compose(&mut [0; 1], PIXEL, &[element], &[0; 4])
 }
 
 #[test]
-fn dark(rt: HostRuntime) -> Result<(), Fail> {
+fn dark(rt: HostRuntime) {
     let mut frame = [7; 4];
-    let mut composer = Composer::new(&mut frame, 2, 2);
-    match composer.show(&[], &[]) {
-        Ok(_) => return Err(Fail::new("a dark output showed a scene")),
-        Err(fault) => assert!(rt; fault.number == 17 && fault.station == 9 && fault.word == 0),
-    }
-    assert!(rt; number(composer.switch_on()) == 0);
-    assert!(rt; number(composer.show(&[], &[])) == 0);
+    let size = Size {
+        width: 2,
+        height: 2,
+    };
+    let mut composer = Composer::new(&mut frame, size);
+    assert_eq!(rt; composer.show(&[], &[]), refused(17));
+    assert_eq!(rt; composer.switch_on(), Ok(()));
+    assert_eq!(rt; composer.show(&[], &[]), Ok(()));
     composer.switch_off();
-    assert!(rt; number(composer.show(&[], &[])) == 17);
-    Ok(())
+    assert_eq!(rt; composer.show(&[], &[]), refused(17));
 }
 
 #[test]
 fn no_size(rt: HostRuntime) {
     let sides = [(0, 4), (4, 0), (2, 3), (4097, 1), (1, 4097), (0, 0)];
+    let none = Size {
+        width: 0,
+        height: 0,
+    };
     for (width, height) in sides {
         let mut frame = [7; 4];
-        let mut composer = Composer::new(&mut frame, width, height);
-        assert!(rt; composer.size().width == 0 && composer.size().height == 0);
-        assert!(rt; number(composer.switch_on()) == 19);
+        let mut composer = Composer::new(&mut frame, Size { width, height });
+        assert_eq!(rt; composer.size(), none);
+        assert_eq!(rt; composer.switch_on(), refused(19));
         assert!(rt; !composer.is_lit());
-        assert!(rt; number(composer.show(&[], &[])) == 17);
+        assert_eq!(rt; composer.show(&[], &[]), refused(17));
     }
 }
 
 #[test]
 fn bad_elements(rt: HostRuntime) {
-    assert!(rt; showing(GOOD) == 0);
+    assert_eq!(rt; showing(GOOD), Ok(()));
     let bad = [
         Element { width: 0, ..GOOD },
         Element {
@@ -96,17 +96,16 @@ fn bad_elements(rt: HostRuntime) {
         },
     ];
     for element in bad {
-        assert!(rt; showing(element) == 18);
+        assert_eq!(rt; showing(element), refused(18));
     }
 }
 
 #[test]
 fn many_elements(rt: HostRuntime) {
     let mut frame = [0; 1];
-    let size = Size {
-        width: 1,
-        height: 1,
-    };
-    assert!(rt; number(compose(&mut frame, size, &[GOOD; 32], &[0; 4])) == 0);
-    assert!(rt; number(compose(&mut frame, size, &[GOOD; 33], &[0; 4])) == 18);
+    assert_eq!(rt; compose(&mut frame, PIXEL, &[GOOD; 32], &[0; 4]), Ok(()));
+    assert_eq!(rt;
+        compose(&mut frame, PIXEL, &[GOOD; 33], &[0; 4]),
+        refused(18)
+    );
 }

@@ -18,7 +18,11 @@ const RED: Element = Element {
 fn stays(rt: HostRuntime) {
     let memory = [0xffff_0000];
     let mut frame = [7; 2];
-    let mut composer = Composer::new(&mut frame, 2, 1);
+    let size = Size {
+        width: 2,
+        height: 1,
+    };
+    let mut composer = Composer::new(&mut frame, size);
     assert!(rt; first_frame(&mut composer, &[RED], &memory).is_ok());
     assert!(rt;
         composer
@@ -26,58 +30,48 @@ fn stays(rt: HostRuntime) {
             .is_err()
     );
     assert!(rt; composer.switch_on().is_ok());
-    assert!(rt; composer.pixel(0, 0, &memory) == Some(0xffff_0000));
-    assert!(rt; composer.pixel(1, 0, &[]) == Some(0xff00_0000));
-    assert!(rt; composer.pixel(2, 0, &memory) == None);
+    assert_eq!(rt; composer.pixel(0, 0, &memory), Some(0xffff_0000));
+    assert_eq!(rt; composer.pixel(1, 0, &[]), Some(0xff00_0000));
+    assert_eq!(rt; composer.pixel(2, 0, &memory), None);
     composer.switch_off();
-    assert!(rt; composer.pixel(0, 0, &memory) == None);
+    assert_eq!(rt; composer.pixel(0, 0, &memory), None);
     assert!(rt; composer.switch_on().is_ok());
-    assert!(rt; composer.pixel(0, 0, &memory) == Some(0xff00_0000));
+    assert_eq!(rt; composer.pixel(0, 0, &memory), Some(0xff00_0000));
 }
 
 // A frame memory of another length is not written to.
 #[test]
 fn untouched(rt: HostRuntime) {
     let mut frame = [7; 3];
-    assert!(rt;
-        compose(
-            &mut frame,
-            Size {
-                width: 2,
-                height: 2,
-            },
-            &[RED],
-            &[0],
-        )
-        .is_err()
-    );
-    assert!(rt; frame[0] == 7 && frame[1] == 7 && frame[2] == 7);
+    let size = Size {
+        width: 2,
+        height: 2,
+    };
+    assert!(rt; compose(&mut frame, size, &[RED], &[0]).is_err());
+    assert_eq!(rt; frame, [7; 3]);
 }
 
 // A refused scene on a dark output leaves it lit and black.
 #[test]
 fn refused_after_lighting(rt: HostRuntime) {
     let mut frame = [7; 1];
-    assert!(rt;
-        compose(
-            &mut frame,
-            Size {
-                width: 1,
-                height: 1,
-            },
-            &[RED],
-            &[],
-        )
-        .is_err()
-    );
-    assert!(rt; frame[0] == 0xff00_0000);
+    let size = Size {
+        width: 1,
+        height: 1,
+    };
+    assert!(rt; compose(&mut frame, size, &[RED], &[]).is_err());
+    assert_eq!(rt; frame, [0xff00_0000]);
 }
 
 #[test]
 fn reads_the_whole_glass(rt: HostRuntime) {
     let memory = [0xff00_ff00];
     let mut frame = [0; 4];
-    let mut composer = Composer::new(&mut frame, 2, 2);
+    let size = Size {
+        width: 2,
+        height: 2,
+    };
+    let mut composer = Composer::new(&mut frame, size);
     let mut copy = [7; 4];
     assert!(rt; !read_glass(&composer, &memory, &mut copy));
     let green = Element { x: 1, y: 1, ..RED };
