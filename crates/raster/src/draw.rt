@@ -49,6 +49,7 @@ fn draw(frame: &mut [u32], size: Size, e: &Element, memory: &[u32])
 }
 
 // Makes a frame of that size the picture of a scene.
+#[tactic(auto, using(crate::proofs::Sounds::all_sound_at))]
 pub(crate) fn draw_scene(frame: &mut [u32], size: Size, scene: &[Element], memory: &[u32])
     requires frame { IsFrame size frame.old }
     requires sound { all_sound (length memory.now) scene.now ≡ true }

@@ -2,12 +2,7 @@ use Rattle.std.proofs.Common.{ap, ◌∙◌}
 use Rattle.std.proofs.lemmas.List.{take_all}
 use Rattle.model.specs.Scene.{picture}
 use Rattle.raster.proofs.Rasters.{rastered}
-use Rattle.raster.proofs.Sounds.{all_sound_at}
 use Rattle.raster.proofs.draw.draw_scene.Goals as goal
-
-pub draw-requires-clause-sound : goal.draw-requires-clause-sound
-draw-requires-clause-sound c =
-    all_sound_at _ c.args.scene.now c.loop-e.e-index _ c.loop-e-test.true c.requires.sound
 
 pub returns : goal.returns
 returns c =
