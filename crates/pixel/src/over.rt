@@ -14,6 +14,7 @@ fn channel_over(alpha: u8, source: u8, below: u8) -> u8
 }
 
 // A premultiplied ARGB8888 pixel over the pixel below it.
+#[tactic(auto, unfolding(model::specs::Pixel::blended_by))]
 pub fn blend(s: u32, d: u32) -> u32
     ensures { result ≡ blended s d }
 {
@@ -28,6 +29,7 @@ pub fn blend(s: u32, d: u32) -> u32
 }
 
 // An XRGB8888 pixel, whose top eight bits mean nothing, made opaque.
+#[tactic(auto, unfolding(model::specs::Pixel::with_alpha))]
 pub fn opaque(s: u32) -> u32
     ensures { result ≡ opaqued s }
 {
