@@ -60,7 +60,7 @@ impl<'a> Presenter for Composer<'a> {
         Ok(())
     }
 
-    #[tactic(auto, using(raster::proofs::Frames::at_painted, present::proofs::Showings::show_sound))]
+    #[tactic(auto, using(raster::proofs::Frames::at_painted))]
     fn show(&mut self, scene: &[Element], memory: &[u32]) -> Result<(), Fault> {
         check_show(self.lit, scene, memory.len())?;
         draw_frame(self.frame, self.size, scene, memory);

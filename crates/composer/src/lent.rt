@@ -8,7 +8,6 @@ use present::first_frame;
 
 // Draws a scene into a frame memory by a composer. The lender finds the picture in its memory; black, where the scene was
 // refused; or all as it was, where the memory does not fit the size.
-#[tactic(auto, using(raster::proofs::Frames::on_fits))]
 pub fn compose(
     frame: &mut [u32],
     size: Size,
