@@ -1,5 +1,5 @@
 -- The arguments of a line, read from left to right.
-use Rattle.std.specs.Prelude.{ℕ, cond, List, ℤ, Some, None, Ok, Err, Option, Result}
+use Rattle.std.specs.Prelude.{◌≡◌, ℕ, cond, List, ℤ, Some, None, Ok, Err, Option, Result, refl}
 use Rattle.std.specs.Option.{ok_or}
 use Rattle.std.specs.Str.{bytes_eq}
 use Rattle.text.specs.declared.problem.Argument.{Argument}
@@ -21,9 +21,17 @@ unfoldable pub unsigned_argument : Argument → Option (List ℕ) → Result ℕ
 unsigned_argument name None = Err (Missing name)
 unsigned_argument name (Some word) = ok_or (unsigned word) (NotUnsigned name)
 
+pub unsigned_missing : (name : Argument) → unsigned_argument name None ≡ Err (Missing name)
+unfolding unsigned_argument
+unsigned_missing name = refl
+
 unfoldable pub signed_argument : Argument → Option (List ℕ) → Result ℤ Problem
 signed_argument name None = Err (Missing name)
 signed_argument name (Some word) = ok_or (signed word) (NotSigned name)
+
+pub signed_missing : (name : Argument) → signed_argument name None ≡ Err (Missing name)
+unfolding signed_argument
+signed_missing name = refl
 
 -- a word that is always the same; what else stands there is that problem
 unfoldable pub fixed_word : List ℕ → Problem → Option (List ℕ) → Result (Unit {0}) Problem

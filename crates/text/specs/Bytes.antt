@@ -1,7 +1,5 @@
 -- The bytes that part a text into lines and words.
 use Rattle.std.specs.Prelude.{ℕ, Bool, not, ◌||◌, ◌==◌}
-use Rattle.text.specs.declared.run.Kind.{Kind}
-use Rattle.text.specs.declared.run.Kind.TheVariants.{Blank, Word, Line}
 
 -- a space, a tab or a carriage return
 abbrev pub blank : ℕ → Bool
@@ -15,8 +13,10 @@ comment b = b == 35
 abbrev pub newline : ℕ → Bool
 newline b = b == 10
 
--- whether a run of this kind goes on at the byte b
-abbrev pub within : Kind → ℕ → Bool
-within Blank b = blank b
-within Word b = not (blank b || comment b)
-within Line b = not (newline b)
+-- whether a word goes on at the byte b
+abbrev pub in_word : ℕ → Bool
+in_word b = not (blank b || comment b)
+
+-- whether a line goes on at the byte b
+abbrev pub in_line : ℕ → Bool
+in_line b = not (newline b)

@@ -1,6 +1,6 @@
 -- The lines of a text.
-use Rattle.std.specs.Prelude.{ℕ, cond, List, [], ◌∷◌, ◌++◌, Some, None, Option}
-use Rattle.text.specs.declared.lines.Lines.{Lines}
+use Rattle.std.specs.Prelude.{◌≡◌, ℕ, ◌+◌, cond, List, [], ◌∷◌, ◌++◌, Some, None, Option, MatchOption}
+use Rattle.std.specs.Borrow.{Bor}
 use Rattle.text.specs.Bytes.{newline}
 
 -- bytes that were read, if there are any, in front of what follows
@@ -16,9 +16,16 @@ lines_on front (b ∷ bs) = cond (newline b) (front ∷ lines_on [] bs) (lines_o
 abbrev pub lines : List ℕ → List (List ℕ)
 lines text = lines_on [] text
 
--- the lines that are left of a text
-abbrev pub lines_left : Lines → List (List ℕ)
-lines_left text = lines text.rest.now
+-- the lines that are left of a text, and how many came before them
+pub record LinesLeft : Type 0 where
+  pub before : ℕ
+  pub lines : List (List ℕ)
+
+-- the first line that was left comes, with its number, and the others stay
+abbrev pub NextLine : LinesLeft → Option (ℕ × Bor (List ℕ)) → LinesLeft → Type 0
+NextLine left next after =
+    MatchOption next ((left.lines ≡ []) × (after.lines ≡ [])) λ found.
+    (found.0 ≡ left.before + 1) × (after.before ≡ left.before + 1) × (left.lines ≡ found.1.now ∷ after.lines)
 
 -- the first of some lines or words, and those after it
 abbrev pub first_of : {A : Type 0} → List A → Option A

@@ -7,6 +7,10 @@ abbrev pub digit : ℕ → ℕ
 digit b =
     cond (nat_le 48 b && nat_le b 57) (b - 48) (cond (nat_le 65 b && nat_le b 70) (b - 55) (cond (nat_le 97 b && nat_le b 102) (b - 87) 16))
 
+-- the same, where it is a digit
+abbrev pub digit_of : ℕ → Option ℕ
+digit_of b = cond (nat_lt (digit b) 16) (Some (digit b)) None
+
 -- the number that digits write with n in front of them
 abbrev pub value : ℕ → ℕ → List ℕ → Option ℕ
 value base n [] = Some n
@@ -15,6 +19,10 @@ value base n (b ∷ bs) = cond (nat_lt (digit b) base) (value base (n * base + d
 abbrev pub at_most : ℕ → Option ℕ → Option ℕ
 at_most most None = None
 at_most most (Some n) = cond (nat_le n most) (Some n) None
+
+-- n and one digit more, as a number from 0 to most
+abbrev pub with_digit : ℕ → ℕ → ℕ → ℕ → Option ℕ
+with_digit base most n b = cond (nat_lt (digit b) base) (at_most most (Some (n * base + digit b))) None
 
 -- a number from 0 to most, in at least one digit
 abbrev pub number : ℕ → ℕ → List ℕ → Option ℕ

@@ -1,6 +1,5 @@
 -- The words of a line.
 use Rattle.std.specs.Prelude.{ℕ, cond, List, [], ◌∷◌, ◌++◌}
-use Rattle.text.specs.declared.words.Words.{Words}
 use Rattle.text.specs.Bytes.{blank, comment}
 use Rattle.text.specs.Lines.{before}
 
@@ -12,7 +11,3 @@ words_on front (b ∷ bs) =
 
 abbrev pub words : List ℕ → List (List ℕ)
 words line = words_on [] line
-
--- the words that are left of a line
-abbrev pub words_left : Words → List (List ℕ)
-words_left line = words line.rest.now

@@ -1,5 +1,5 @@
 // The first line of a file that has a word.
-ghost use Rattle.std.specs.Prelude.{◌≡◌, ◌+◌, ◌≤◌, length, IfOk, Ok, Err, MatchResult};
+ghost use Rattle.std.specs.Prelude.{◌≡◌, IfOk, Ok, Err, MatchResult};
 ghost use Rattle.text.specs.Lines.{lines};
 ghost use Rattle.text.specs.First.{first_line};
 
@@ -7,22 +7,21 @@ use super::lines::Lines;
 use super::problem::{BadLine, Problem};
 use super::words::Words;
 
-// Its number, the line and what follows it. A text without one is named by its last line.
-pub fn first_line(text: &[u8]) -> Result<(usize, &[u8], &[u8]), BadLine>
-    ensures value { MatchResult result (λ found. first_line 0 (lines text.now) ≡ Ok (found.0, found.1.now, lines found.2.now)) (λ bad. first_line 0 (lines text.now) ≡ Err bad) }
-    ensures bound { IfOk result (λ found. found.0 + length found.2.now ≤ length text.now) }
+// Its number, the line and the lines after it. A text without one is named by its last line.
+pub fn first_line(text: &[u8]) -> Result<(usize, &[u8], Lines<'_>), BadLine>
+    ensures value { MatchResult result (λ found. first_line 0 (lines text.now) ≡ Ok (found.0, found.1.now, found.2.lines)) (λ bad. first_line 0 (lines text.now) ≡ Err bad) }
+    ensures numbers { IfOk result (λ found. found.2.before ≡ found.0) }
 {
-    let mut lines = Lines { rest: text };
-    let mut number = 0;
-    while let Some(line) = lines.next() {
-        number += 1;
-        let mut words = Words { rest: line };
-        if words.next().is_some() {
-            return Ok((number, line, lines.rest));
+    let mut lines = Lines::of(text);
+    let mut last = 1;
+    while let Some((number, line)) = lines.next() {
+        if Words::of(line).next().is_some() {
+            return Ok((number, line, lines));
         }
+        last = number;
     }
     Err(BadLine {
-        line: number.max(1),
+        line: last,
         problem: Problem::NoConsole,
     })
 }

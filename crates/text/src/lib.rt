@@ -4,15 +4,14 @@
 mod argument;
 mod first;
 pub mod lines;
-mod number;
+pub mod number;
 mod pixel;
 pub mod problem;
-mod run;
 pub mod words;
 
 pub use first::first_line;
 pub use lines::Lines;
-pub use number::digit_value;
+pub use number::{Number, digit_value};
 pub use pixel::read_pixels;
 pub use problem::{Argument, BadLine, Problem};
 pub use words::{Words, is_text};

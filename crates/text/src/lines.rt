@@ -1,17 +1,18 @@
 // The lines of a text, one after another.
-ghost use Rattle.std.specs.Prelude.{◌≡◌, ◌<◌, [], ◌∷◌, length, drop, IfSome, MatchOption, OnSome};
-ghost use Rattle.std.specs.Option.{option_map};
-ghost use Rattle.text.specs.Lines.{lines, lines_left, first_of, after_first};
+ghost use Rattle.std.specs.Prelude.{◌≡◌, ◌≤◌, ◌<◌, [], ◌∷◌, length, IfSome, MatchOption};
+ghost use Rattle.std.specs.List.{prefix_len};
+ghost use Rattle.std.specs.Iterator.{at_most};
+ghost use Rattle.text.specs.Bytes.{in_line};
+ghost use Rattle.text.specs.Lines.{lines, NextLine};
 
-use super::run::{Kind, run_length};
+use std::marker::Model;
 
-fn past_first(bytes: &[u8]) -> &[u8]
-    ensures { result.now ≡ drop 1 bytes.now }
+// How many bytes the first line has without its end.
+fn line_length(text: &[u8]) -> usize
+    ensures count { result ≡ prefix_len in_line text.now }
+    ensures bound { result ≤ length text.now }
 {
-    match bytes {
-        [_, rest @ ..] => rest,
-        [] => bytes,
-    }
+    text.iter().take_while(|byte| **byte != b'\n').count()
 }
 
 // The first line without its end, and what follows it.
@@ -22,25 +23,54 @@ fn split_line(text: &[u8]) -> Option<(&[u8], &[u8])>
     if text.is_empty() {
         return None;
     }
-    let (line, rest) = text.split_at(run_length(text, Kind::Line));
-    Some((line, past_first(rest)))
+    match text.split_at(line_length(text)) {
+        (line, [_, rest @ ..]) => Some((line, rest)),
+        (line, []) => Some((line, &[])),
+    }
 }
 
-// What is left of the text.
+// The lines that are left of a text, with their numbers from 1.
 #[derive(Drop)]
 pub struct Lines<'a> {
-    pub rest: &'a [u8],
+    rest: &'a [u8],
+    // How many lines came before.
+    before: usize,
+}
+
+impl<'a> Model for Lines<'a> {
+    ghost use Rattle.std.specs.Prelude.{◌+◌, ◌^◌, ◌<◌, length};
+    ghost use Rattle.text.specs.Lines.{LinesLeft, lines};
+
+    ghost Value = { LinesLeft };
+
+    ghost view = { λ l. record { before = l.before; lines = lines l.rest.now } };
+
+    ghost invariant = { λ l. l.before + length l.rest.now < 2 ^ 64 };
 }
 
 impl<'a> Lines<'a> {
-    // The next line without its end.
-    pub fn next(&mut self) -> Option<&'a [u8]>
-        ensures line { option_map (λ x. x.now) result ≡ first_of (lines_left self.old) }
-        ensures left { lines_left self.new ≡ after_first (lines_left self.old) }
-        ensures shorter { OnSome result (length self.new.rest.now < length self.old.rest.now) }
+    pub fn of(text: &'a [u8]) -> Lines<'a>
+        ensures { result ≡ record { before = 0; lines = lines text.now } }
     {
+        Lines {
+            rest: text,
+            before: 0,
+        }
+    }
+}
+
+impl<'a> Iterator for Lines<'a> {
+    // A line without its end, after its number.
+    type Item = (usize, &'a [u8]);
+
+    ghost next_gives = { NextLine };
+
+    ghost remaining = { λ left. at_most (length left.lines) };
+
+    fn next(&mut self) -> Option<(usize, &'a [u8])> {
         let (line, rest) = split_line(self.rest)?;
         self.rest = rest;
-        Some(line)
+        self.before += 1;
+        Some((self.before, line))
     }
 }

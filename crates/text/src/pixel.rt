@@ -5,6 +5,7 @@ ghost use Rattle.text.specs.Pixel.{pixel, times, pixels_of};
 use super::number::read_number;
 
 // Eight hex digits.
+#[tactic(auto, unfolding(crate::specs::Pixel::pixel))]
 fn read_pixel(word: &[u8]) -> Option<u32>
     ensures { result ≡ pixel word.now }
 {

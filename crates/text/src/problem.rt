@@ -1,11 +1,14 @@
 // What can be wrong with a file, and how it is said.
 ghost use Rattle.std.specs.Prelude.{◌≡◌, ◌++◌, Some};
+ghost use Rattle.text.specs.declared.problem.Problem.TheVariants.{NoMemory};
 ghost use Rattle.text.specs.Message.{argument_name, problem_subject, problem_text, bad_line_text};
 
+use std::alloc::{AllocError, AllocFailed};
+use std::error::Error;
 use std::fmt;
 
 // An argument of a line, by the name that messages give it.
-#[derive(Clone, Copy)]
+#[derive(Clone, Copy, PartialEq, Eq, Debug)]
 pub enum Argument {
     X,
     Y,
@@ -23,7 +26,7 @@ pub enum Argument {
 }
 
 // What is wrong with a line.
-#[derive(Clone, Copy)]
+#[derive(Clone, Copy, PartialEq, Eq, Debug)]
 pub enum Problem {
     // There is no line with a word.
     NoConsole,
@@ -45,17 +48,17 @@ pub enum Problem {
 }
 
 // A line that is wrong, counted from 1.
-#[derive(Clone, Copy)]
+#[derive(Clone, Copy, PartialEq, Eq, Debug)]
 pub struct BadLine {
     pub line: usize,
     pub problem: Problem,
 }
 
-impl Argument {
-    fn name(self) -> &'static str
-        ensures { result.now ≡ argument_name self }
-    {
-        match self {
+impl fmt::Display for Argument {
+    ghost output = { λ name. Some (argument_name name) };
+
+    fn fmt<W: fmt::Write>(&self, f: &mut fmt::Formatter<W>) -> fmt::Result {
+        f.write_str(match self {
             Argument::X => "X",
             Argument::Y => "Y",
             Argument::First => "FIRST",
@@ -69,65 +72,60 @@ impl Argument {
             Argument::Offset => "OFFSET",
             Argument::Places => "N",
             Argument::Time => "TIME",
-        }
-    }
-}
-
-impl Problem {
-    // The argument that the message begins with, if there is one.
-    fn subject(self) -> &'static str
-        ensures { result.now ≡ problem_subject self }
-    {
-        match self {
-            Problem::Missing(name) => name.name(),
-            Problem::NotUnsigned(name) => name.name(),
-            Problem::NotSigned(name) => name.name(),
-            Problem::NoConsole
-            | Problem::SceneStart
-            | Problem::RecordingStart
-            | Problem::SecondConsole
-            | Problem::UnknownLine
-            | Problem::PixelForm
-            | Problem::PixelsPastEnd
-            | Problem::MessageForm
-            | Problem::SwitchForm
-            | Problem::WordTooMany
-            | Problem::NoMemory => "",
-        }
-    }
-
-    // The message after its subject.
-    fn text(self) -> &'static str
-        ensures { result.now ≡ problem_text self }
-    {
-        match self {
-            Problem::NoConsole => "the file has no console line",
-            Problem::SceneStart => "the first line must be: console WIDTH HEIGHT composer PIXELS",
-            Problem::RecordingStart => {
-                "the first line must be: console WIDTH HEIGHT composer|scanout PIXELS"
-            }
-            Problem::SecondConsole => "a second console line",
-            Problem::UnknownLine => "unknown word at the start of the line",
-            Problem::Missing(_) => " is missing",
-            Problem::NotUnsigned(_) => " is not a number from 0 to 4294967295",
-            Problem::NotSigned(_) => " is not a number from -2147483648 to 2147483647",
-            Problem::PixelForm => "a pixel is eight hex digits, or N*PIXEL",
-            Problem::PixelsPastEnd => "the pixels do not fit the pixel memory",
-            Problem::MessageForm => "a message is hex digits, an even number to a word",
-            Problem::SwitchForm => "switch is on or off",
-            Problem::WordTooMany => "a word too many",
-            Problem::NoMemory => "out of memory",
-        }
+        })
     }
 }
 
 impl fmt::Display for Problem {
-    ghost output = { λ p. Some (problem_subject p ++ problem_text p) };
+    ghost output = { λ problem. Some (problem_subject problem ++ problem_text problem) };
 
     fn fmt<W: fmt::Write>(&self, f: &mut fmt::Formatter<W>) -> fmt::Result {
-        let subject = self.subject();
-        let text = self.text();
-        write!(f, "{subject}{text}")
+        match self {
+            Problem::NoConsole => write!(f, "the file has no console line"),
+            Problem::SceneStart => write!(
+                f,
+                "the first line must be: console WIDTH HEIGHT composer PIXELS"
+            ),
+            Problem::RecordingStart => write!(
+                f,
+                "the first line must be: console WIDTH HEIGHT composer|scanout PIXELS"
+            ),
+            Problem::SecondConsole => write!(f, "a second console line"),
+            Problem::UnknownLine => write!(f, "unknown word at the start of the line"),
+            Problem::Missing(name) => write!(f, "{name} is missing"),
+            Problem::NotUnsigned(name) => {
+                write!(f, "{name} is not a number from 0 to 4294967295")
+            }
+            Problem::NotSigned(name) => {
+                write!(f, "{name} is not a number from -2147483648 to 2147483647")
+            }
+            Problem::PixelForm => write!(f, "a pixel is eight hex digits, or N*PIXEL"),
+            Problem::PixelsPastEnd => write!(f, "the pixels do not fit the pixel memory"),
+            Problem::MessageForm => {
+                write!(f, "a message is hex digits, an even number to a word")
+            }
+            Problem::SwitchForm => write!(f, "switch is on or off"),
+            Problem::WordTooMany => write!(f, "a word too many"),
+            Problem::NoMemory => write!(f, "out of memory"),
+        }
+    }
+}
+
+impl Error for Problem {}
+
+impl From<AllocError> for Problem {
+    ghost from_gives = { λ _ problem. problem ≡ NoMemory };
+
+    fn from(_: AllocError) -> Problem {
+        Problem::NoMemory
+    }
+}
+
+impl<T: Drop> From<AllocFailed<T>> for Problem {
+    ghost from_gives = { λ _ problem. problem ≡ NoMemory };
+
+    fn from(_: AllocFailed<T>) -> Problem {
+        Problem::NoMemory
     }
 }
 
@@ -141,10 +139,4 @@ impl fmt::Display for BadLine {
     }
 }
 
-// As it is shown: tests and `?` ask for this.
-impl fmt::Debug for BadLine {
-    fn fmt<W: fmt::Write>(&self, f: &mut fmt::Formatter<W>) -> fmt::Result {
-        let bad = *self;
-        write!(f, "{bad}")
-    }
-}
+impl Error for BadLine {}

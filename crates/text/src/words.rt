@@ -1,51 +1,88 @@
 // The words of a line, one after another.
-ghost use Rattle.std.specs.Prelude.{◌≡◌, ◌<◌, [], ◌∷◌, length, IfSome, MatchOption, OnSome};
-ghost use Rattle.std.specs.Option.{option_map};
+ghost use Rattle.std.specs.Prelude.{◌≡◌, ◌≤◌, ◌<◌, [], ◌∷◌, length, IfSome, MatchOption};
+ghost use Rattle.std.specs.List.{prefix_len};
+ghost use Rattle.std.specs.Iterator.{YieldsFirstBy, item_count};
 ghost use Rattle.std.specs.Str.{bytes_eq};
-ghost use Rattle.text.specs.Lines.{first_of, after_first};
-ghost use Rattle.text.specs.Words.{words, words_left};
+ghost use Rattle.text.specs.Bytes.{blank, in_word};
+ghost use Rattle.text.specs.Words.{words};
 
-use super::run::{Kind, run_length};
-
-fn same_bytes(a: &[u8], b: &[u8]) -> bool
-    ensures { result ≡ bytes_eq a.now b.now }
-{
-    a == b
-}
+use std::marker::Model;
 
 // Whether a word is this text.
 pub fn is_text(word: &[u8], text: &[u8]) -> bool
     ensures { result ≡ bytes_eq word.now text.now }
 {
-    same_bytes(word, text)
+    word == text
+}
+
+// Whether a byte stands between words.
+fn is_blank(byte: u8) -> bool
+    ensures { result ≡ blank byte }
+{
+    matches!(byte, b' ' | b'\t' | b'\r')
+}
+
+// How many blanks are in front.
+fn blanks(line: &[u8]) -> usize
+    ensures count { result ≡ prefix_len blank line.now }
+    ensures bound { result ≤ length line.now }
+{
+    line.iter().take_while(|byte| is_blank(**byte)).count()
+}
+
+// How many bytes the word in front has.
+fn word_length(line: &[u8]) -> usize
+    ensures count { result ≡ prefix_len in_word line.now }
+    ensures bound { result ≤ length line.now }
+{
+    line.iter()
+        .take_while(|byte| !is_blank(**byte) && **byte != b'#')
+        .count()
 }
 
 // The first word, and what follows it.
 fn split_word(line: &[u8]) -> Option<(&[u8], &[u8])>
     ensures parts { MatchOption result (words line.now ≡ []) (λ p. words line.now ≡ p.0.now ∷ words p.1.now) }
-    ensures shorter { IfSome result (λ p. length p.1.now < length line.now) }
 {
-    let (_, line) = line.split_at(run_length(line, Kind::Blank));
-    let (word, rest) = line.split_at(run_length(line, Kind::Word));
+    let (_, line) = line.split_at(blanks(line));
+    let (word, rest) = line.split_at(word_length(line));
     if word.is_empty() {
         return None;
     }
     Some((word, rest))
 }
 
-// What is left of the line.
+// The words that are left of a line.
 #[derive(Drop)]
 pub struct Words<'a> {
-    pub rest: &'a [u8],
+    rest: &'a [u8],
+}
+
+impl<'a> Model for Words<'a> {
+    ghost use Rattle.std.specs.Prelude.{List, ℕ};
+    ghost use Rattle.text.specs.Words.{words};
+
+    ghost Value = { List (List ℕ) };
+
+    ghost view = { λ w. words w.rest.now };
 }
 
 impl<'a> Words<'a> {
-    // The next word.
-    pub fn next(&mut self) -> Option<&'a [u8]>
-        ensures word { option_map (λ x. x.now) result ≡ first_of (words_left self.old) }
-        ensures left { words_left self.new ≡ after_first (words_left self.old) }
-        ensures shorter { OnSome result (length self.new.rest.now < length self.old.rest.now) }
+    pub fn of(line: &'a [u8]) -> Words<'a>
+        ensures { result ≡ words line.now }
     {
+        Words { rest: line }
+    }
+}
+
+impl<'a> Iterator for Words<'a> {
+    type Item = &'a [u8];
+
+    ghost next_gives = { YieldsFirstBy (λ word. word.now) (λ left. left) };
+
+    ghost remaining = { item_count (λ left. left) };
+
+    fn next(&mut self) -> Option<&'a [u8]> {
         let (word, rest) = split_word(self.rest)?;
         self.rest = rest;
         Some(word)

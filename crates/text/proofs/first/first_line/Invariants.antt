@@ -1,11 +1,9 @@
-use Rattle.std.proofs.Common.{◌≡◌, ◌+◌, ◌≤◌, length}
-use Rattle.text.specs.First.{first_line}
+use Rattle.std.proofs.Common.{◌≡◌, max}
 use Rattle.text.specs.Lines.{lines}
+use Rattle.text.specs.First.{first_line}
 use Rattle.text.proofs.first.first_line.Given as goal
 
-abbrev pub invariant-loop-line : goal.invariant-loop-line
-invariant-loop-line l =
-    (first_line l.number (lines l.lines.rest.now) ≡ first_line 0 (lines l.text)) × (l.number + length l.lines.rest.now ≤ length l.text)
-
-abbrev pub decreases-loop-line : goal.decreases-loop-line
-decreases-loop-line l = length l.lines.rest.now
+abbrev pub invariant-loop-number : goal.invariant-loop-number
+invariant-loop-number l =
+    (goal.iterator-loop-number).can_next l.lines × (goal.iterator-loop-number).is_finite l.lines
+    × (first_line l.lines.before l.lines.lines ≡ first_line 0 (lines l.text)) × (l.last ≡ max l.lines.before 1)
