@@ -1,5 +1,5 @@
 -- The fills of a file that was parsed fit its pixel memory.
-use Rattle.std.proofs.Common.{◌≡◌, ℕ, ◌+◌, ◌≤◌, Bool, true, false, cond, ltb, ◌⊎◌, List, [], ◌∷◌, ◌++◌, Some, None, Ok, Err, codes, Option, Result, refl, subst, inl, inr, ⊎_elim, arith}
+use Rattle.std.proofs.Common.{◌≡◌, ℕ, ◌+◌, ◌≤◌, Bool, true, false, cond, ltb, ◌⊎◌, List, [], ◌∷◌, ◌++◌, Some, None, Ok, Err, codes, Option, Result, refl, subst, inl, inr, ⊎_elim}
 use Rattle.std.specs.Option.{ok_or}
 use Rattle.std.specs.List.{AllByRecursion}
 use Rattle.std.specs.Str.{bytes_eq}
@@ -24,14 +24,14 @@ use Rattle.text.specs.Words.{words}
 -- a chain that ends well went well before
 and_then_ok : {A B E : Type 0} (r : Result A E) (next : A → Result B E) (b : B) → and_then r next ≡ Ok b → (a : A) × (r ≡ Ok a) × (next a ≡ Ok b)
 and_then_ok (Ok a) next b e = (a, refl, e)
-and_then_ok (Err x) next b e = let z : ◌≡◌ {A = ℕ} 0 1 = cc in absurd (omega arith)
+and_then_ok (Err x) next b e = absurd cc
 
 on_line_ok : {A : Type 0} (n : ℕ) (r : Result A Problem) (a : A) → on_line n r ≡ Ok a → r ≡ Ok a
 on_line_ok n (Ok x) a e = cc
-on_line_ok n (Err x) a e = let z : ◌≡◌ {A = ℕ} 0 1 = cc in absurd (omega arith)
+on_line_ok n (Err x) a e = absurd cc
 
 cond_ok : {A E : Type 0} (t : Bool) (x : E) (r : Result A E) (a : A) → cond t (Err x) r ≡ Ok a → (t ≡ false) × (r ≡ Ok a)
-cond_ok true x r a e = let z : ◌≡◌ {A = ℕ} 0 1 = cc in absurd (omega arith)
+cond_ok true x r a e = absurd cc
 cond_ok false x r a e = (refl, e)
 
 cond_either : {A E : Type 0} (t : Bool) (x y : Result A E) (a : A) → cond t x y ≡ Ok a → (x ≡ Ok a) ⊎ (y ≡ Ok a)
@@ -39,8 +39,8 @@ cond_either true x y a e = inl e
 cond_either false x y a e = inr e
 
 never_ok : {A E : Type 0} (t : Bool) (x y : E) (a : A) → cond t (Err x) (Err y) ≡ Ok a → ⊥
-never_ok true x y a e = let z : ◌≡◌ {A = ℕ} 0 1 = cc in omega arith
-never_ok false x y a e = let z : ◌≡◌ {A = ℕ} 0 1 = cc in omega arith
+never_ok true x y a e = cc
+never_ok false x y a e = cc
 
 module _ (n : ℕ) where
   placed_fits : (first : ℕ) (word : List ℕ) (p : ℕ × ℕ) → placed_pixels n first word ≡ Ok p → first + p.0 ≤ n

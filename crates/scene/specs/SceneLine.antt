@@ -20,7 +20,7 @@ console_line ws =
     reading (fixed_word (codes "composer") SceneStart) ws λ _ ws.
     reading (unsigned_argument Pixels) ws λ pixels ws.
     reading line_end ws λ _ _.
-    Ok (record { width = width; height = height; pixels = pixels })
+    Ok (record { size = record { width = width; height = height }; pixels = pixels })
 
 -- X Y FIRST WIDTH HEIGHT STRIDE FORMAT
 abbrev pub element_line : List (List ℕ) → Result Element Problem

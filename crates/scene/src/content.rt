@@ -1,11 +1,10 @@
 // What a scene file says.
-use model::Element;
+use model::{Element, Size};
 
 // The screen that the file is for.
 #[derive(Clone, Copy, PartialEq, Eq, Debug)]
 pub struct Console {
-    pub width: u32,
-    pub height: u32,
+    pub size: Size,
     // How many pixels the pixel memory has.
     pub pixels: u32,
 }
@@ -18,7 +17,7 @@ pub enum Item {
 }
 
 // The items stand in the order of the file, so that the lowest element comes first.
-#[derive(Drop)]
+#[derive(Debug, Drop)]
 pub struct SceneFile {
     pub console: Console,
     pub items: Vec<Item>,

@@ -1,7 +1,7 @@
 // What the items of a scene file are for: the pixel memory and the scene.
 ghost use Rattle.std.specs.Prelude.{◌≡◌};
 ghost use Rattle.list.specs.Appended.{Appended};
-ghost use Rattle.scene.specs.Items.{filled, filled_by, filled_all, element_of, elements};
+ghost use Rattle.scene.specs.Items.{filled, filled_all, elements};
 
 use super::content::Item;
 use list::Appender;
@@ -18,34 +18,20 @@ fn fill_run(memory: &mut [u32], first: u32, count: u32, pixel: u32)
     }
 }
 
-fn fill_item(memory: &mut [u32], item: Item)
-    ensures { memory.new ≡ filled_by memory.old item }
-{
-    if let Item::Fill {
-        first,
-        count,
-        pixel,
-    } = item
-    {
-        fill_run(memory, first, count, pixel);
-    }
-}
-
 // Writes the pixels of the fills, in order. A fill that does not fit the memory is left out:
 // a file that was parsed has none, where the memory is as large as its console says.
 pub fn fill_memory(items: &[Item], memory: &mut [u32])
     ensures { memory.new ≡ filled_all memory.old items.now }
 {
     for item in items {
-        fill_item(memory, *item);
-    }
-}
-
-fn push_element(item: Item, out: &mut Appender<'_, Element>)
-    ensures { Appended out.old out.new (element_of item) }
-{
-    if let Item::Element(element) = item {
-        out.push(element);
+        match *item {
+            Item::Fill {
+                first,
+                count,
+                pixel,
+            } => fill_run(memory, first, count, pixel),
+            Item::Element(_) => {}
+        }
     }
 }
 
@@ -54,6 +40,9 @@ pub fn collect_elements(items: &[Item], out: &mut Appender<'_, Element>)
     ensures { Appended out.old out.new (elements items.now) }
 {
     for item in items {
-        push_element(*item, out);
+        match *item {
+            Item::Fill { .. } => {}
+            Item::Element(element) => out.push(element),
+        }
     }
 }

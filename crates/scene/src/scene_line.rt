@@ -1,61 +1,43 @@
 // The lines of a scene file; those after the console's past the word that says their kind.
-ghost use Rattle.std.specs.Prelude.{◌≡◌, ◌+◌, ◌≤◌, [], ◌∷◌, ◌++◌, IfOk, Ok, Err, MatchResult};
-ghost use Rattle.text.specs.declared.problem.Problem.TheVariants.{NoMemory};
+ghost use Rattle.std.specs.Prelude.{◌≡◌, ◌+◌, ◌≤◌, IfOk};
+ghost use Rattle.text.specs.Told.{Gives};
 ghost use Rattle.scene.specs.SceneLine.{console_line, element_line, placed_pixels, pixels_line};
-ghost use Rattle.text.specs.Told.{Wrong};
-ghost use Rattle.text.specs.Words.{words_left};
 
 use super::content::{Console, Item};
-use model::Element;
+use model::{Element, Size};
 use text::{Argument, Problem, Words, read_pixels};
 
 // console WIDTH HEIGHT composer PIXELS
-pub(crate) fn console_line(line: &mut Words<'_>) -> Result<Console, Problem>
-    ensures { result ≡ console_line (words_left line.old) }
+pub(crate) fn console_line(mut line: Words<'_>) -> Result<Console, Problem>
+    ensures { result ≡ console_line line.entry }
 {
     line.fixed(b"console", Problem::SceneStart)?;
-    let width = line.unsigned(Argument::Width)?;
-    let height = line.unsigned(Argument::Height)?;
+    let width = line.number(Argument::Width)?;
+    let height = line.number(Argument::Height)?;
     line.fixed(b"composer", Problem::SceneStart)?;
-    let pixels = line.unsigned(Argument::Pixels)?;
+    let pixels = line.number(Argument::Pixels)?;
     line.end()?;
     Ok(Console {
-        width,
-        height,
+        size: Size { width, height },
         pixels,
     })
 }
 
 // X Y FIRST WIDTH HEIGHT STRIDE FORMAT
-pub(crate) fn element_line(line: &mut Words<'_>) -> Result<Element, Problem>
-    ensures { result ≡ element_line (words_left line.old) }
+pub(crate) fn element_line(mut line: Words<'_>) -> Result<Element, Problem>
+    ensures { result ≡ element_line line.entry }
 {
-    let x = line.signed(Argument::X)?;
-    let y = line.signed(Argument::Y)?;
-    let first = line.unsigned(Argument::First)?;
-    let width = line.unsigned(Argument::Width)?;
-    let height = line.unsigned(Argument::Height)?;
-    let stride = line.unsigned(Argument::Stride)?;
-    let format = line.unsigned(Argument::Format)?;
+    let element = Element {
+        x: line.number(Argument::X)?,
+        y: line.number(Argument::Y)?,
+        first: line.number(Argument::First)?,
+        width: line.number(Argument::Width)?,
+        height: line.number(Argument::Height)?,
+        stride: line.number(Argument::Stride)?,
+        format: line.number(Argument::Format)?,
+    };
     line.end()?;
-    Ok(Element {
-        x,
-        y,
-        first,
-        width,
-        height,
-        stride,
-        format,
-    })
-}
-
-pub(crate) fn push_item(items: &mut Vec<Item>, item: Item) -> Result<(), Problem>
-    ensures { MatchResult result (λ _. items.new.items ≡ items.old.items ++ item ∷ []) (λ e. e ≡ NoMemory) }
-{
-    match items.push(item) {
-        Ok(()) => Ok(()),
-        Err(_) => Err(Problem::NoMemory),
-    }
+    Ok(element)
 }
 
 // How many pixels a word writes, and which, where they fit a memory from the place `first` on.
@@ -64,7 +46,7 @@ fn read_placed(word: &[u8], first: u32, memory: u32) -> Result<(u32, u32), Probl
     ensures fits { IfOk result (λ pixels. first + pixels.0 ≤ memory) }
 {
     let (count, pixel) = read_pixels(word).ok_or(Problem::PixelForm)?;
-    if first as u64 + count as u64 > memory as u64 {
+    if u64::from(first) + u64::from(count) > u64::from(memory) {
         return Err(Problem::PixelsPastEnd);
     }
     Ok((count, pixel))
@@ -72,23 +54,20 @@ fn read_placed(word: &[u8], first: u32, memory: u32) -> Result<(u32, u32), Probl
 
 // FIRST PIXEL..
 pub(crate) fn pixels_line(
-    line: &mut Words<'_>,
+    mut line: Words<'_>,
     memory: u32,
     items: &mut Vec<Item>,
 ) -> Result<(), Problem>
-    ensures { MatchResult result (λ _. pixels_line memory items.old.items (words_left line.old) ≡ Ok items.new.items) (λ e. Wrong e (pixels_line memory items.old.items (words_left line.old))) }
+    ensures { Gives (λ _. items.new.items) result (pixels_line memory items.old.items line.entry) }
 {
-    let mut first = line.unsigned(Argument::First)?;
-    while let Some(word) = line.next() {
+    let mut first = line.number(Argument::First)?;
+    for word in line {
         let (count, pixel) = read_placed(word, first, memory)?;
-        push_item(
-            items,
-            Item::Fill {
-                first,
-                count,
-                pixel,
-            },
-        )?;
+        items.push(Item::Fill {
+            first,
+            count,
+            pixel,
+        })?;
         first += count;
     }
     Ok(())

@@ -11,6 +11,10 @@ Wrong problem said = (problem ≡ NoMemory) ⊎ (said ≡ Err problem)
 abbrev pub WrongLine : {A : Type 0} → BadLine → Result A BadLine → Type 0
 WrongLine bad said = (bad.problem ≡ NoMemory) ⊎ (said ≡ Err bad)
 
+-- the result, as the view shows its value, is what the text says
+abbrev pub GivesAlways : {A B : Type 0} → (A → B) → Result A Problem → Result B Problem → Type 0
+GivesAlways view result said = MatchResult result (λ x. said ≡ Ok (view x)) (λ problem. said ≡ Err problem)
+
 -- the result, as the view shows its value, is what the text says, unless memory ran out
 abbrev pub Gives : {A B : Type 0} → (A → B) → Result A Problem → Result B Problem → Type 0
 Gives view result said = MatchResult result (λ x. said ≡ Ok (view x)) (λ problem. Wrong problem said)

@@ -1,11 +1,8 @@
-use Rattle.std.proofs.Common.{◌≡◌, ◌+◌, ◌≤◌, length, vec_items}
-use Rattle.text.specs.Lines.{lines}
+use Rattle.std.proofs.Common.{◌≡◌, vec_items}
 use Rattle.scene.specs.Scene.{items_after}
 use Rattle.scene.proofs.parse.read_items.Given as goal
 
 abbrev pub invariant-loop-line : goal.invariant-loop-line
 invariant-loop-line l =
-    (items_after l.memory l.number (vec_items l.items) (lines l.lines.rest.now) ≡ items_after l.memory l.before (vec_items l.initial.items) (lines l.text)) × (l.number + length l.lines.rest.now ≤ l.before + length l.text)
-
-abbrev pub decreases-loop-line : goal.decreases-loop-line
-decreases-loop-line l = length l.lines.rest.now
+    (goal.iterator-loop-line).can_next l.line-iterator × (goal.iterator-loop-line).is_finite l.line-iterator
+    × (items_after l.memory l.line-iterator.before (vec_items l.items) l.line-iterator.lines ≡ items_after l.memory l.initial.line-iterator.before (vec_items l.initial.items) l.initial.line-iterator.lines)
