@@ -1,5 +1,5 @@
 -- The lines of a recording; those after the console's past the word that says their kind.
-use Rattle.std.specs.Prelude.{ℕ, cond, List, [], Ok, codes, Result}
+use Rattle.std.specs.Prelude.{ℕ, true, false, List, [], Ok, codes, Result}
 use Rattle.text.specs.declared.problem.Argument.TheVariants.{X, Y, First, Width, Height, Stride, Format, Pixels, Client, Id, Offset, Places, Time}
 use Rattle.text.specs.declared.problem.Problem.{Problem}
 use Rattle.text.specs.declared.problem.Problem.TheVariants.{RecordingStart, SwitchForm}
@@ -17,10 +17,10 @@ console_line ws =
     reading (fixed_word (codes "console") RecordingStart) ws λ _ ws.
     reading (unsigned_argument Width) ws λ width ws.
     reading (unsigned_argument Height) ws λ height ws.
-    reading (either_word (codes "composer") (codes "scanout") RecordingStart) ws λ composer ws.
+    reading (either_word (codes "composer") Composer (codes "scanout") Scanout RecordingStart) ws λ presenter ws.
     reading (unsigned_argument Pixels) ws λ pixels ws.
     reading line_end ws λ _ _.
-    Ok (record { width = width; height = height; presenter = cond composer Composer Scanout; pixels = pixels })
+    Ok (record { size = record { width = width; height = height }; presenter = presenter; pixels = pixels })
 
 -- N
 abbrev pub events_line : List (List ℕ) → Result PlainLine Problem
@@ -71,7 +71,7 @@ paint_line ws =
 -- on|off
 abbrev pub switch_line : List (List ℕ) → Result PlainLine Problem
 switch_line ws =
-    reading (either_word (codes "on") (codes "off") SwitchForm) ws λ on ws.
+    reading (either_word (codes "on") true (codes "off") false SwitchForm) ws λ on ws.
     reading line_end ws λ _ _.
     Ok (call (switch on))
 

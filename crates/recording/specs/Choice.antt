@@ -1,10 +1,10 @@
 -- A word that is one of two.
-use Rattle.std.specs.Prelude.{ℕ, Bool, true, false, cond, List, Some, None, Ok, Err, Option, Result}
+use Rattle.std.specs.Prelude.{ℕ, cond, List, Some, None, Ok, Err, Option, Result}
 use Rattle.std.specs.Str.{bytes_eq}
 use Rattle.text.specs.declared.problem.Problem.{Problem}
 
--- whether it is the first of the two; what is neither is that problem
-unfoldable pub either_word : List ℕ → List ℕ → Problem → Option (List ℕ) → Result Bool Problem
-either_word first second problem None = Err problem
-either_word first second problem (Some word) =
-    cond (bytes_eq word first) (Ok true) (cond (bytes_eq word second) (Ok false) (Err problem))
+-- the value that stands for the word; what is neither of the two is that problem
+unfoldable pub either_word : {A : Type 0} → List ℕ → A → List ℕ → A → Problem → Option (List ℕ) → Result A Problem
+either_word first a second b problem None = Err problem
+either_word first a second b problem (Some word) =
+    cond (bytes_eq word first) (Ok a) (cond (bytes_eq word second) (Ok b) (Err problem))

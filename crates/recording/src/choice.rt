@@ -1,42 +1,24 @@
 // A word that is one of two.
 ghost use Rattle.std.specs.Prelude.{◌≡◌};
-ghost use Rattle.std.specs.Option.{option_map};
 ghost use Rattle.text.specs.Lines.{first_of, after_first};
-ghost use Rattle.text.specs.Words.{words_left};
 ghost use Rattle.recording.specs.Choice.{either_word};
 
-use text::{Problem, Words, is_text};
+use text::{Problem, Words};
 
-fn either_of(
-    word: Option<&[u8]>,
-    first: &[u8],
-    second: &[u8],
-    problem: Problem,
-) -> Result<bool, Problem>
-    ensures { result ≡ either_word first.now second.now problem (option_map (λ x. x.now) word.entry) }
-{
-    let Some(word) = word else {
-        return Err(problem);
-    };
-    if is_text(word, first) {
-        Ok(true)
-    } else if is_text(word, second) {
-        Ok(false)
-    } else {
-        Err(problem)
-    }
-}
-
-// Whether the next word is the first of the two; what is neither is that problem.
-pub(crate) fn read_either(
+// The value that stands for the next word; what is neither of the two is that problem.
+#[tactic(auto, unfolding(crate::specs::Choice::either_word))]
+pub(crate) fn read_either<T: Copy>(
     line: &mut Words<'_>,
-    first: &[u8],
-    second: &[u8],
+    first: (&[u8], T),
+    second: (&[u8], T),
     problem: Problem,
-) -> Result<bool, Problem>
-    ensures value { result ≡ either_word first.now second.now problem (first_of (words_left line.old)) }
-    ensures left { words_left line.new ≡ after_first (words_left line.old) }
+) -> Result<T, Problem>
+    ensures value { result ≡ either_word first.entry.0.now first.entry.1 second.entry.0.now second.entry.1 problem (first_of line.old) }
+    ensures left { line.new ≡ after_first line.old }
 {
-    let word = line.next();
-    either_of(word, first, second, problem)
+    match line.next() {
+        Some(word) if word == first.0 => Ok(first.1),
+        Some(word) if word == second.0 => Ok(second.1),
+        _ => Err(problem),
+    }
 }

@@ -1,23 +1,23 @@
 // What a recording says.
+use model::Size;
 
-#[derive(Clone, Copy)]
+#[derive(Clone, Copy, PartialEq, Eq, Debug)]
 pub enum PresenterKind {
     Composer,
     Scanout,
 }
 
 // The screen that the calls were made for.
-#[derive(Clone, Copy)]
+#[derive(Clone, Copy, PartialEq, Eq, Debug)]
 pub struct Console {
-    pub width: u32,
-    pub height: u32,
+    pub size: Size,
     pub presenter: PresenterKind,
     // How many pixels the pixel memory has.
     pub pixels: u32,
 }
 
 // One call with its arguments.
-#[derive(Drop)]
+#[derive(Debug, Drop)]
 pub enum Call {
     Request {
         client: u32,
@@ -53,7 +53,7 @@ pub enum Call {
 }
 
 // A call, the line that it stands on, counted from 1, and how many places its list of events has.
-#[derive(Drop)]
+#[derive(Debug, Drop)]
 pub struct Entry {
     pub line: usize,
     pub places: u32,
@@ -61,7 +61,7 @@ pub struct Entry {
 }
 
 // The entries stand in the order of the file.
-#[derive(Drop)]
+#[derive(Debug, Drop)]
 pub struct Recording {
     pub console: Console,
     pub console_line: usize,
@@ -69,7 +69,7 @@ pub struct Recording {
 }
 
 // What a line after the console's says.
-#[derive(Drop)]
+#[derive(Debug, Drop)]
 pub(crate) enum Line {
     // There is no word on it.
     Empty,

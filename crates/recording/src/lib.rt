@@ -4,7 +4,6 @@
 mod call_line;
 mod choice;
 pub mod content;
-mod keyword;
 mod line;
 mod message;
 mod paint;

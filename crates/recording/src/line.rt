@@ -1,41 +1,28 @@
 // What one line after the console's says.
-ghost use Rattle.std.specs.Prelude.{◌≡◌, Ok, MatchResult};
-ghost use Rattle.text.specs.Told.{Wrong};
-ghost use Rattle.text.specs.Words.{words, words_left};
+ghost use Rattle.text.specs.Told.{Gives};
 ghost use Rattle.recording.specs.Content.{plain_line};
-ghost use Rattle.recording.specs.Line.{line_by, line_of};
+ghost use Rattle.recording.specs.Line.{line_of};
 
 use super::call_line::{
     buffer_line, events_line, frame_line, paint_line, request_line, root_line, switch_line,
 };
 use super::content::Line;
-use super::keyword::{Keyword, find_keyword};
 use std::alloc::Global;
 use text::{Problem, Words};
 
-// A line past its first word.
-fn read_rest(heap: Global, keyword: Keyword, line: &mut Words<'_>) -> Result<Line, Problem>
-    ensures { MatchResult result (λ said. line_by keyword (words_left line.old) ≡ Ok (plain_line said)) (λ e. Wrong e (line_by keyword (words_left line.old))) }
+pub(crate) fn read_line(heap: Global, mut line: Words<'_>) -> Result<Line, Problem>
+    ensures { Gives plain_line result (line_of line.entry) }
 {
-    match keyword {
-        Keyword::Events => events_line(line),
-        Keyword::Request => request_line(heap, line),
-        Keyword::Buffer => buffer_line(line),
-        Keyword::Root => root_line(line),
-        Keyword::Paint => paint_line(heap, line),
-        Keyword::Switch => switch_line(line),
-        Keyword::Frame => frame_line(line),
-        Keyword::Console => Err(Problem::SecondConsole),
-        Keyword::Unknown => Err(Problem::UnknownLine),
+    match line.next() {
+        None => Ok(Line::Empty),
+        Some(b"events") => events_line(line),
+        Some(b"request") => request_line(heap, line),
+        Some(b"buffer") => buffer_line(line),
+        Some(b"root") => root_line(line),
+        Some(b"paint") => paint_line(heap, line),
+        Some(b"switch") => switch_line(line),
+        Some(b"frame") => frame_line(line),
+        Some(b"console") => Err(Problem::SecondConsole),
+        Some(_) => Err(Problem::UnknownLine),
     }
-}
-
-pub(crate) fn read_line(heap: Global, line: &[u8]) -> Result<Line, Problem>
-    ensures { MatchResult result (λ said. line_of (words line.now) ≡ Ok (plain_line said)) (λ e. Wrong e (line_of (words line.now))) }
-{
-    let mut words = Words { rest: line };
-    let Some(word) = words.next() else {
-        return Ok(Line::Empty);
-    };
-    read_rest(heap, find_keyword(word), &mut words)
 }
