@@ -4,4 +4,6 @@
 #[cfg(test)]
 mod recordings;
 #[cfg(test)]
+mod refused;
+#[cfg(test)]
 mod scenes;

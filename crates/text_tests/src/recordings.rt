@@ -1,7 +1,8 @@
 // Recordings, good and bad.
-use recording::{Call, PresenterKind, parse_recording};
+use super::refused::{Cases, are_refused, is_refused};
+use model::Size;
+use recording::{Call, Console, PresenterKind, parse_recording};
 use std::alloc::{AllocError, Global};
-use std::process::Abort;
 use std::test::Fail;
 
 // A call, written out.
@@ -48,10 +49,10 @@ fn each_kind_of_call(rt: HostRuntime) -> Result<(), Fail> {
         let (line, call) = case.split_once(" => ").ok_or("no call")?;
         let text = format!(in heap; "console 1 1 composer 1\n{line}\n")?;
         let file = parse_recording(heap, text.as_bytes())?;
-        assert_eq!(rt; file.entries.len(), 1);
-        for entry in file.entries.iter() {
-            assert_eq!(rt; shown(heap, &entry.call)?.as_str(), call);
-        }
+        let [entry] = file.entries.as_slice() else {
+            return Err(Fail::new("not one entry"));
+        };
+        assert_eq!(rt; shown(heap, &entry.call)?.as_str(), call);
     }
     Ok(())
 }
@@ -62,15 +63,19 @@ fn lines_and_places(rt: HostRuntime) -> Result<(), Fail> {
         b"# before\r\n\r\n\tconsole 4 03 scanout 12 # a console\r\nframe 1\r\nevents 0\r\n\nframe 2\r\nswitch on\nevents 7\nevents 9 # twice\nframe 3";
     let file = parse_recording(rt.alloc(), text)?;
     assert_eq!(rt; file.console_line, 3);
-    assert_eq!(rt; file.console.width, 4);
-    assert_eq!(rt; file.console.height, 3);
-    assert_eq!(rt; file.console.pixels, 12);
-    assert!(rt; matches!(file.console.presenter, PresenterKind::Scanout));
+    let console = Console {
+        size: Size {
+            width: 4,
+            height: 3,
+        },
+        presenter: PresenterKind::Scanout,
+        pixels: 12,
+    };
+    assert_eq!(rt; file.console, console);
     let expected = [(4, 160), (7, 0), (8, 0), (11, 9)];
     assert_eq!(rt; file.entries.len(), expected.len());
     for (entry, (line, places)) in file.entries.iter().zip(expected) {
-        assert_eq!(rt; entry.line, line);
-        assert_eq!(rt; entry.places, places);
+        assert_eq!(rt; (entry.line, entry.places), (line, places));
     }
     Ok(())
 }
@@ -79,32 +84,17 @@ fn lines_and_places(rt: HostRuntime) -> Result<(), Fail> {
 fn a_console_alone(rt: HostRuntime) -> Result<(), Fail> {
     let file = parse_recording(rt.alloc(), b"console 0 4294967295 composer 0")?;
     assert_eq!(rt; file.console_line, 1);
-    assert!(rt; matches!(file.console.presenter, PresenterKind::Composer));
+    assert_eq!(rt; file.console.presenter, PresenterKind::Composer);
     assert!(rt; file.entries.is_empty());
     Ok(())
 }
 
-// A text that is no recording, and what is said of it.
-fn refused(rt: &impl Abort, heap: Global, text: &[u8], message: &str) -> Result<(), Fail> {
-    match parse_recording(heap, text) {
-        Ok(_) => Err(Fail::new("accepted")),
-        Err(bad) => {
-            let said = format!(in heap; "{bad}")?;
-            assert_eq!(rt; said.as_str(), message);
-            Ok(())
-        }
-    }
-}
-
 #[test]
 fn no_console(rt: HostRuntime) -> Result<(), Fail> {
-    refused(&rt, rt.alloc(), b"", "line 1: the file has no console line")?;
-    refused(
-        &rt,
-        rt.alloc(),
-        b"#\n\n \r\n",
-        "line 3: the file has no console line",
-    )
+    let empty = parse_recording(rt.alloc(), b"");
+    is_refused(&rt, empty, "line 1: the file has no console line")?;
+    let blank = parse_recording(rt.alloc(), b"#\n\n \r\n");
+    is_refused(&rt, blank, "line 3: the file has no console line")
 }
 
 // The first line with a word, and what is said of it.
@@ -141,31 +131,21 @@ switch => switch is on or off
 switch On => switch is on or off
 switch on off => a word too many";
 
-// Each case, after some lines, and before one that is not reached.
-fn refused_after(
-    rt: &impl Abort,
-    heap: Global,
-    lines: &str,
-    number: u32,
-    cases: &str,
-) -> Result<(), Fail> {
-    for case in cases.lines() {
-        let (line, why) = case.split_once(" => ").ok_or("no message")?;
-        let text = format!(in heap; "{lines}{line}\nframe")?;
-        let message = format!(in heap; "line {number}: {why}")?;
-        refused(rt, heap, text.as_bytes(), message.as_str())?;
-    }
-    Ok(())
-}
-
 #[test]
 fn bad_lines(rt: HostRuntime) -> Result<(), Fail> {
-    refused_after(&rt, rt.alloc(), "# before\n\n", 3, BAD_CONSOLES)?;
-    refused_after(
-        &rt,
-        rt.alloc(),
-        "console 1 1 composer 4\n\nframe 1\r\n",
-        4,
-        BAD_LINES,
-    )
+    let heap = rt.alloc();
+    let consoles = Cases {
+        before: "# before\n\n",
+        after: "\nframe",
+        number: 3,
+        lines: BAD_CONSOLES,
+    };
+    are_refused(&rt, |text: &[u8]| parse_recording(heap, text), consoles)?;
+    let lines = Cases {
+        before: "console 1 1 composer 4\n\nframe 1\r\n",
+        after: "\nframe",
+        number: 4,
+        lines: BAD_LINES,
+    };
+    are_refused(&rt, |text: &[u8]| parse_recording(heap, text), lines)
 }

@@ -1,22 +1,9 @@
 // Scene files, good and bad.
+use super::refused::{Cases, are_refused, is_refused};
 use list::Appender;
-use model::Element;
+use model::{Element, Size};
 use scene::{Console, Item, collect_elements, fill_memory, parse_scene};
-use std::alloc::Global;
-use std::process::Abort;
 use std::test::Fail;
-
-// A text that is no scene file, and what is said of it.
-fn refused(rt: &impl Abort, heap: Global, text: &[u8], message: &str) -> Result<(), Fail> {
-    match parse_scene(heap, text) {
-        Ok(_) => Err(Fail::new("accepted")),
-        Err(bad) => {
-            let said = format!(in heap; "{bad}")?;
-            assert_eq!(rt; said.as_str(), message);
-            Ok(())
-        }
-    }
-}
 
 #[test]
 fn a_good_file(rt: HostRuntime) -> Result<(), Fail> {
@@ -26,8 +13,10 @@ fn a_good_file(rt: HostRuntime) -> Result<(), Fail> {
         b"# two pixels\r\n\nconsole 4 03 composer 4\r\npixels 0 Ff00fF00\t3*11223344\npixels 4 0*00000000\nelement -1 2 0 1 2 2 0",
     )?;
     let console = Console {
-        width: 4,
-        height: 3,
+        size: Size {
+            width: 4,
+            height: 3,
+        },
         pixels: 4,
     };
     assert_eq!(rt; file.console, console);
@@ -79,25 +68,20 @@ fn numbers_at_their_bounds(rt: HostRuntime) -> Result<(), Fail> {
     let file = parse_scene(rt.alloc(), text)?;
     assert_eq!(rt; file.console.pixels, u32::MAX);
     assert_eq!(rt; file.items.len(), 3);
-    match file.items.get(1) {
-        Some(Item::Element(element)) => {
-            assert_eq!(rt; element.x, i32::MIN);
-            assert_eq!(rt; element.y, i32::MAX);
-            Ok(())
-        }
-        _ => Err(Fail::new("no element")),
-    }
+    let Some(Item::Element(element)) = file.items.get(1) else {
+        return Err(Fail::new("no element"));
+    };
+    assert_eq!(rt; element.x, i32::MIN);
+    assert_eq!(rt; element.y, i32::MAX);
+    Ok(())
 }
 
 #[test]
 fn no_console(rt: HostRuntime) -> Result<(), Fail> {
-    refused(&rt, rt.alloc(), b"", "line 1: the file has no console line")?;
-    refused(
-        &rt,
-        rt.alloc(),
-        b"\n# nothing\n\t\r\n",
-        "line 3: the file has no console line",
-    )
+    let empty = parse_scene(rt.alloc(), b"");
+    is_refused(&rt, empty, "line 1: the file has no console line")?;
+    let blank = parse_scene(rt.alloc(), b"\n# nothing\n\t\r\n");
+    is_refused(&rt, blank, "line 3: the file has no console line")
 }
 
 // The first line with a word, and what is said of it.
@@ -126,31 +110,21 @@ pixels 0 *12345678 => a pixel is eight hex digits, or N*PIXEL
 pixels 3 12345678 12345678 => the pixels do not fit the pixel memory
 pixels 1 4294967295*12345678 => the pixels do not fit the pixel memory";
 
-// Each case, after some lines, and before one that is not reached.
-fn refused_after(
-    rt: &impl Abort,
-    heap: Global,
-    lines: &str,
-    number: u32,
-    cases: &str,
-) -> Result<(), Fail> {
-    for case in cases.lines() {
-        let (line, why) = case.split_once(" => ").ok_or("no message")?;
-        let text = format!(in heap; "{lines}{line}\nconsole")?;
-        let message = format!(in heap; "line {number}: {why}")?;
-        refused(rt, heap, text.as_bytes(), message.as_str())?;
-    }
-    Ok(())
-}
-
 #[test]
 fn bad_lines(rt: HostRuntime) -> Result<(), Fail> {
-    refused_after(&rt, rt.alloc(), "\n# before\n", 3, BAD_CONSOLES)?;
-    refused_after(
-        &rt,
-        rt.alloc(),
-        "console 1 1 composer 4\n#\n\n",
-        4,
-        BAD_LINES,
-    )
+    let heap = rt.alloc();
+    let consoles = Cases {
+        before: "\n# before\n",
+        after: "\nconsole",
+        number: 3,
+        lines: BAD_CONSOLES,
+    };
+    are_refused(&rt, |text: &[u8]| parse_scene(heap, text), consoles)?;
+    let lines = Cases {
+        before: "console 1 1 composer 4\n#\n\n",
+        after: "\nconsole",
+        number: 4,
+        lines: BAD_LINES,
+    };
+    are_refused(&rt, |text: &[u8]| parse_scene(heap, text), lines)
 }
