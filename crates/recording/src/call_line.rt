@@ -53,6 +53,7 @@ pub(crate) fn request_line(heap: Global, mut line: Words<'_>) -> Result<Line, Pr
 }
 
 // CLIENT ID FIRST WIDTH HEIGHT STRIDE FORMAT
+// A scene file's element says the last five too; both are flat, so that each is filled in place.
 pub(crate) fn buffer_line(mut line: Words<'_>) -> Result<Line, Problem>
     ensures { GivesAlways plain_line result (buffer_line line.entry) }
 {

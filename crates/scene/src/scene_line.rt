@@ -8,6 +8,7 @@ use model::{Element, Size};
 use text::{Argument, Problem, Words, read_pixels};
 
 // console WIDTH HEIGHT composer PIXELS
+// A recording's console has a presenter besides, and another problem: one function of both would be longer.
 pub(crate) fn console_line(mut line: Words<'_>) -> Result<Console, Problem>
     ensures { result ≡ console_line line.entry }
 {

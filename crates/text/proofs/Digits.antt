@@ -1,9 +1,8 @@
 -- How digits are read one after another.
-use Rattle.std.proofs.Common.{◌≡◌, ℕ, ◌+◌, ◌*◌, ◌<◌, ◌≤◌, true, ltb, leb, List, [], ◌∷◌, length, get_or, drop, pos, neg_ℤ, Some, None, Option, sym, refl, ap, ◌∙◌, ⊎_elim, option_and_then, false, le-mul_of_pos_right, arith}
-use Rattle.std.specs.Option.{option_map}
+use Rattle.std.proofs.Common.{◌≡◌, ℕ, ◌+◌, ◌*◌, ◌<◌, ◌≤◌, true, ltb, leb, List, [], ◌∷◌, length, get_or, drop, Some, None, Option, sym, refl, ap, ◌∙◌, ⊎_elim, option_and_then, false, le-mul_of_pos_right, arith}
 use Rattle.std.proofs.lemmas.List.{at_drop_more, at_drop_all}
-use Rattle.std.proofs.lemmas.Bool.{cases_Bool, lt-leb, le-leb, ltb-true, leb-true, leb-false, eq-eqb}
-use Rattle.text.specs.Number.{digit, value, at_most, with_digit, number, signed}
+use Rattle.std.proofs.lemmas.Bool.{cases_Bool, lt-leb, le-leb, ltb-true, leb-true, leb-false}
+use Rattle.text.specs.Number.{digit, value, at_most, with_digit, number}
 
 pub number_some : (base most : ℕ) (xs : List ℕ) → 0 < length xs → number base most xs ≡ at_most most (value base 0 xs)
 number_some base most [] h = absurd (omega arith)
@@ -22,7 +21,7 @@ too_large base most n (b ∷ bs) h =
     (cases_Bool (ltb (digit b) base))
 
 at_most_low : (most n : ℕ) (o : Option ℕ) → at_most most o ≡ Some n → n ≤ most
-at_most_low most n None e = let z : ◌≡◌ {A = ℕ} 0 1 = cc in omega arith
+at_most_low most n None e = cc
 at_most_low most n (Some m) e =
     ⊎_elim (λ t. let low = leb-true m most t in let same : m ≡ n = grind arith in omega arith) (λ f. absurd (grind arith)) (cases_Bool (leb m most))
 
@@ -43,7 +42,7 @@ with_digit_low : (base most n b m : ℕ) → with_digit base most n b ≡ Some m
 with_digit_low base most n b m e =
     ⊎_elim
     (λ (t : ltb (digit b) base ≡ true). at_most_low most m (Some (n * base + digit b)) (rw t at e))
-    (λ (f : ltb (digit b) base ≡ false). let none = rw f at e in let z : ◌≡◌ {A = ℕ} 0 1 = cc in absurd (omega arith))
+    (λ (f : ltb (digit b) base ≡ false). let none = rw f at e in absurd cc)
     (cases_Bool (ltb (digit b) base))
 
 -- one digit of xs on: n is what the digits before i write
@@ -62,12 +61,3 @@ pub all_digits : (base most n : ℕ) (xs : List ℕ) (i : ℕ) → length xs ≤
 all_digits base most n xs i h low so_far =
     let end : value base n (drop i xs) ≡ Some n = at_drop_all (value base n) xs i h in
     sym (ap (at_most most) end ∙ rw (le-leb n most low)) ∙ so_far
-
-pub number_low : (base most n : ℕ) (xs : List ℕ) → Some n ≡ number base most xs → n ≤ most
-number_low base most n [] e = let z : ◌≡◌ {A = ℕ} 0 1 = cc in omega arith
-number_low base most n (b ∷ bs) e = at_most_low most n (value base 0 (b ∷ bs)) (sym e)
-
--- a sign in front of digits
-pub signed_minus : (xs : List ℕ) → 0 < length xs → get_or xs 0 0 ≡ 45 → signed xs ≡ option_map (λ n. neg_ℤ (pos n)) (number 10 2147483648 (drop 1 xs))
-signed_minus [] h e = absurd (omega arith)
-signed_minus (b ∷ bs) h e = rw (eq-eqb b 45 e)

@@ -16,6 +16,7 @@ fn read_pixel(word: &[u8]) -> Option<u32>
 }
 
 // What stands in front of a pixel: nothing, or how often it comes and a star.
+#[tactic(auto, using(crate::proofs::Stars::times_some), unfolding(crate::specs::Pixel::times))]
 fn read_times(front: &[u8]) -> Option<u32>
     ensures { result ≡ times front.now }
 {

@@ -3,7 +3,7 @@ use std::process::Abort;
 use std::test::Fail;
 use text::BadLine;
 
-pub fn is_refused<T: Drop>(
+pub(super) fn is_refused<T: Drop>(
     rt: &(impl Abort + AllocGlobal),
     parsed: Result<T, BadLine>,
     message: &str,
@@ -16,7 +16,7 @@ pub fn is_refused<T: Drop>(
 
 // Lines that are parsed in the midst of others, the last of which are not reached.
 #[derive(Clone, Copy)]
-pub struct Cases {
+pub(super) struct Cases {
     pub before: &'static str,
     pub after: &'static str,
     // Where the line stands.
@@ -25,7 +25,7 @@ pub struct Cases {
     pub lines: &'static str,
 }
 
-pub fn are_refused<T: Drop, P: Fn(&[u8]) -> Result<T, BadLine>>(
+pub(super) fn are_refused<T: Drop, P: Fn(&[u8]) -> Result<T, BadLine>>(
     rt: &(impl Abort + AllocGlobal),
     parse: P,
     cases: Cases,
