@@ -32,8 +32,8 @@ impl Words<'_> {
 
     // No word is left.
     #[tactic(auto, unfolding(crate::specs::Argument::line_end))]
-    pub fn end(mut self) -> Result<(), Problem>
-        ensures { result ≡ line_end (first_of self.entry) }
+    pub fn end(&mut self) -> Result<(), Problem>
+        ensures { result ≡ line_end (first_of self.old) }
     {
         match self.next() {
             Some(_) => Err(Problem::WordTooMany),
