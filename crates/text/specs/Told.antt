@@ -19,5 +19,6 @@ GivesAlways view result said = MatchResult result (λ x. said ≡ Ok (view x)) (
 abbrev pub Gives : {A B : Type 0} → (A → B) → Result A Problem → Result B Problem → Type 0
 Gives view result said = MatchResult result (λ x. said ≡ Ok (view x)) (λ problem. Wrong problem said)
 
+-- the same of the lines of a file, whose problem comes with its line
 abbrev pub GivesFile : {A B : Type 0} → (A → B) → Result A BadLine → Result B BadLine → Type 0
 GivesFile view result said = MatchResult result (λ x. said ≡ Ok (view x)) (λ bad. WrongLine bad said)

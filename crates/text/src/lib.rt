@@ -4,6 +4,7 @@
 mod argument;
 mod first;
 pub mod lines;
+mod memory;
 pub mod number;
 mod pixel;
 pub mod problem;

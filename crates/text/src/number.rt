@@ -65,6 +65,7 @@ pub trait Number: Sized {
     fn read(word: &[u8], name: Argument) -> Result<Self, Problem>
         ensures { result ≡ argument name (Some word.now) };
 
+    // Without a word the argument is missing, whatever number it is to be.
     ghost missing: { (name : Argument) → argument name None ≡ Err (Missing name) };
 }
 

@@ -1,9 +1,7 @@
 // What can be wrong with a file, and how it is said.
 ghost use Rattle.std.specs.Prelude.{◌≡◌, ◌++◌, Some};
-ghost use Rattle.text.specs.declared.problem.Problem.TheVariants.{NoMemory};
 ghost use Rattle.text.specs.Message.{argument_name, problem_subject, problem_text, bad_line_text};
 
-use std::alloc::{AllocError, AllocFailed};
 use std::error::Error;
 use std::fmt;
 
@@ -112,22 +110,6 @@ impl fmt::Display for Problem {
 }
 
 impl Error for Problem {}
-
-impl From<AllocError> for Problem {
-    ghost from_gives = { λ _ problem. problem ≡ NoMemory };
-
-    fn from(_: AllocError) -> Problem {
-        Problem::NoMemory
-    }
-}
-
-impl<T: Drop> From<AllocFailed<T>> for Problem {
-    ghost from_gives = { λ _ problem. problem ≡ NoMemory };
-
-    fn from(_: AllocFailed<T>) -> Problem {
-        Problem::NoMemory
-    }
-}
 
 impl fmt::Display for BadLine {
     ghost output = { λ b. Some (bad_line_text b) };

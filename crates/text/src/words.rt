@@ -22,7 +22,8 @@ fn is_blank(byte: u8) -> bool
     matches!(byte, b' ' | b'\t' | b'\r')
 }
 
-// How many blanks are in front.
+// How many blanks are in front. A function of any run of bytes would need a clause on the test
+// that it is given, and so be longer than the chains here and in lines.rt.
 fn blanks(line: &[u8]) -> usize
     ensures count { result ≡ prefix_len blank line.now }
     ensures bound { result ≤ length line.now }
