@@ -1,5 +1,5 @@
 -- What a message asks for, with its objects found.
-use Rattle.std.specs.Prelude.{ℕ, Bool, true, false, cond, List, ℤ, None, Ok, Option, Result, ◌==◌, nat_lt}
+use Rattle.std.specs.Prelude.{ℕ, Bool, true, false, cond, List, ℤ, Some, None, Ok, Option, Result, nat_lt}
 use Rattle.model.specs.declared.fault.Fault.{Fault}
 use Rattle.model.specs.declared.request.Request.{Request}
 use Rattle.model.specs.declared.request.Request.TheVariants.{CreateSurface, GetSubsurface, SurfaceDestroy, Attach as AttachBuffer, Damage, Frame, Commit, SubsurfaceDestroy, SetPosition, PlaceAbove, PlaceBelow, SetSync, SetDesync, BufferDestroy}
@@ -41,9 +41,10 @@ linked_by (Subsurface surface inert) = cond inert None surface
 abbrev pub linked : Model → ℕ → Option ℕ
 linked m k = linked_by (object_at m k).kind
 
--- 0 stands for null
-abbrev pub the_attach : Model → ℕ → ℕ → Result Attach Fault
-the_attach m client id = cond (id == 0) (Ok Null) (the_buffer m client 2 id >>= λ b. Ok (Held b))
+-- none stands for null
+abbrev pub the_attach : Model → ℕ → Option ℕ → Result Attach Fault
+the_attach m client None = Ok Null
+the_attach m client (Some id) = the_buffer m client 2 id >>= λ b. Ok (Held b)
 
 -- station 4: the ids among the arguments, where p is the place of the object that is asked
 abbrev pub with_objects_found : Model → ℕ → ℕ → Request → Result Found Fault
@@ -51,7 +52,7 @@ with_objects_found m client p (CreateSurface id) = new_id m client 2 id >>= λ _
 with_objects_found m client p (GetSubsurface id s q) =
     new_id m client 2 id >>= λ _. the_surface m client 3 s >>= λ surface. the_surface m client 4 q >>= λ parent. Ok (get_subsurface client id surface parent)
 with_objects_found m client p SurfaceDestroy = Ok (destroy_surface p)
-with_objects_found m client p (AttachBuffer id x y) = the_attach m client id >>= λ a. Ok (attach p a x y)
+with_objects_found m client p (AttachBuffer buffer x y) = the_attach m client buffer >>= λ a. Ok (attach p a x y)
 with_objects_found m client p (Damage x y w h) = Ok damage
 with_objects_found m client p (Frame id) = new_id m client 2 id >>= λ _. Ok (ask_frame client p id)
 with_objects_found m client p Commit = Ok (commit_surface p)
