@@ -4,22 +4,16 @@
 ghost use Rattle.bounds.specs.Reached.{EventsFit, DepthSuffices, SpansApart};
 
 // No call sends more than 160 events, whatever calls came before.
-pub fn events_fit() -> u8
+pub fn events_fit()
     ensures { EventsFit }
-{
-    0
-}
+{}
 
 // No tree of surfaces is deeper than 32, so apply, the scene and the search for ancestors miss nothing.
-pub fn depth_suffices() -> u8
+pub fn depth_suffices()
     ensures { DepthSuffices }
-{
-    0
-}
+{}
 
 // The spans of buffer records lie inside the pixel memory, and no two meet.
-pub fn spans_apart() -> u8
+pub fn spans_apart()
     ensures { SpansApart }
-{
-    0
-}
+{}

@@ -2,8 +2,6 @@
 ghost use Rattle.rules.specs.Refusal.{Refusals};
 
 // Holds of each call by itself, for every core.
-pub fn refusals_alter_nothing() -> u8
+pub fn refusals_alter_nothing()
     ensures { Refusals }
-{
-    0
-}
+{}
