@@ -1,6 +1,6 @@
 // What a surface's pending or cached state attaches.
 
-#[derive(Clone, Copy)]
+#[derive(Clone, Copy, PartialEq, Eq, Debug)]
 pub enum Attach {
     Nothing,
     // The surface is to have no buffer.

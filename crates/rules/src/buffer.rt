@@ -1,6 +1,6 @@
 // A buffer record.
 
-#[derive(Clone, Copy)]
+#[derive(Clone, Copy, PartialEq, Eq, Debug)]
 pub struct Buffer {
     // A record that is not in use is free.
     pub used: bool,

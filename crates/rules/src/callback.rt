@@ -1,7 +1,7 @@
 // A callback that a client has coming.
 use super::stage::Stage;
 
-#[derive(Clone, Copy)]
+#[derive(Clone, Copy, PartialEq, Eq, Debug)]
 pub struct Callback {
     pub client: u32,
     pub id: u32,

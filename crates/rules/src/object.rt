@@ -1,6 +1,6 @@
 // An object that has no record but its place in the table of ids.
 
-#[derive(Clone, Copy)]
+#[derive(Clone, Copy, PartialEq, Eq, Debug)]
 pub enum ObjectKind {
     Display,
     Compositor,
@@ -10,7 +10,7 @@ pub enum ObjectKind {
 }
 
 // A free place has id 0.
-#[derive(Clone, Copy)]
+#[derive(Clone, Copy, PartialEq, Eq, Debug)]
 pub struct Object {
     pub client: u32,
     pub id: u32,

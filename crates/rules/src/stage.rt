@@ -1,6 +1,6 @@
 // How far the state that a callback was asked for with has come.
 
-#[derive(Clone, Copy)]
+#[derive(Clone, Copy, PartialEq, Eq, Debug)]
 pub enum Stage {
     Pending,
     Cached,
