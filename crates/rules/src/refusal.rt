@@ -2,6 +2,7 @@
 ghost use Rattle.rules.specs.Refusal.{Refusals};
 
 // Holds of each call by itself, for every core.
+#[tactic(auto, using(crate::proofs::Refusals::refusals))]
 pub fn refusals_alter_nothing()
     ensures { Refusals }
 {}
