@@ -1,5 +1,6 @@
 -- Commit, apply and set_desync leave the tree as it is.
 use Rattle.std.proofs.Common.{◌≡◌, ℕ, zero, suc, ◌+◌, ◌≤◌, Bool, true, false, cond, ◌||◌, eqb, List, [], ◌∷◌, length, Some, None, Option, refl, ap, inl, inr, arith, length-set}
+use Rattle.std.specs.List.{push}
 use Rattle.std.proofs.lemmas.List.{length_push}
 use Rattle.std.proofs.lemmas.Bool.{cond_both}
 use Rattle.rules.specs.declared.attach.Attach.{Attach}
@@ -8,14 +9,14 @@ use Rattle.rules.specs.declared.stage.Stage.TheVariants.{Pending, Cached, Curren
 use Rattle.model.specs.declared.event.Event.{Event}
 use Rattle.rules.specs.State.{Surface, Waiting, no_surface, buffer_at}
 use Rattle.rules.specs.Setters.{with_attach, with_cached, with_hold, with_mark, with_order, with_position, with_sync, with_waiting}
-use Rattle.rules.specs.Run.{plain, added, at, edit, send, release}
+use Rattle.rules.specs.Run.{plain, at, edit, release}
 use Rattle.rules.specs.Hold.{end_cached, end_current, held}
 use Rattle.rules.specs.Callback.{advance}
 use Rattle.rules.specs.Tree.{held_back}
 use Rattle.rules.specs.Apply.{replace, take_cached, restack, apply_self, settle, apply_place, apply_children, apply_in, apply_free, cache, take_pending, commit, desync}
 use Rattle.bounds.specs.Sound.{one}
 use Rattle.bounds.proofs.Tables.{put_related, put_sum}
-use Rattle.bounds.proofs.Steps.{Plain, LinkedAlike, alike_same, cached_one, cached_most, mark_one, cache_one, Keeps, keeps_same, keeps_then, edit_keeps, sent_keeps, advance_keeps}
+use Rattle.bounds.proofs.Steps.{Plain, LinkedAlike, alike_same, cached_one, cached_most, mark_one, cache_one, sent_living, Keeps, keeps_same, keeps_then, edit_keeps, sent_keeps, advance_keeps}
 
 -- what a surface is once its cached attach has become current
 abbrev replacing : Surface → Surface
@@ -46,12 +47,12 @@ end_keeps : (p : ℕ) (r : Plain) (h o : Option ℕ) → (at r p).current.mark �
 end_keeps p r None o e c = replaced p r r.model.waiting r.events (omega arith) (omega arith) c
 end_keeps p r (Some b) None e c =
     let f = buffer_at r.model b in
-    cond_both (eqb f.id 0) r (send plain (release f) r) (λ (t : Plain). Keeps 0 r (edit p replacing t))
-    (λ _. replaced p r r.model.waiting r.events (omega arith) (omega arith) c)
-    (λ _. replaced p r r.model.waiting (added r.events (release f)) (omega (arith, length_push r.events (release f))) (omega arith) c)
+    sent_living (λ (t : Plain). Keeps 0 r (edit p replacing t)) (release f.client) f.id r
+    (replaced p r r.model.waiting r.events (omega arith) (omega arith) c)
+    (λ i. replaced p r r.model.waiting (push r.events (release f.client i)) (omega (arith, length_push r.events (release f.client i))) (omega arith) c)
 end_keeps p r (Some b) (Some k) e c =
     let w : Waiting = record { buffer = b; mark = k } in
-    replaced p r (added r.model.waiting w) r.events (omega arith) (omega (arith, length_push r.model.waiting w, ap one e)) c
+    replaced p r (push r.model.waiting w) r.events (omega arith) (omega (arith, length_push r.model.waiting w, ap one e)) c
 
 replace_keeps : (p : ℕ) (r : Plain) → cache_one (at r p) ≡ 1 → Keeps 0 r (replace plain p r)
 replace_keeps p r c = end_keeps p r (at r p).current.hold (at r p).current.mark refl c
@@ -129,9 +130,9 @@ end_cached_keeps p r Nothing e = cached_run p r r.events (omega arith)
 end_cached_keeps p r Null e = cached_run p r r.events (omega arith)
 end_cached_keeps p r (Held b) e =
     let f = buffer_at r.model b in
-    cond_both (eqb f.id 0) r (send plain (release f) r) (λ (t : Plain). Keeps 1 r (edit p caching t))
-    (λ _. cached_run p r r.events (omega arith))
-    (λ _. cached_run p r (added r.events (release f)) (omega (arith, length_push r.events (release f), ap cached_one e)))
+    sent_living (λ (t : Plain). Keeps 1 r (edit p caching t)) (release f.client) f.id r
+    (cached_run p r r.events (omega arith))
+    (λ i. cached_run p r (push r.events (release f.client i)) (omega (arith, length_push r.events (release f.client i), ap cached_one e)))
 
 cache_keeps : (p : ℕ) (r : Plain) → Keeps 1 r (cache plain p r)
 cache_keeps p r = end_cached_keeps p r (at r p).cached refl

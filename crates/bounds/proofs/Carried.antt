@@ -9,7 +9,7 @@ use Rattle.model.specs.declared.fault.Fault.{Fault}
 use Rattle.rules.specs.declared.callback.Callback.{Callback}
 use Rattle.rules.specs.declared.stage.Stage.TheVariants.{Pending}
 use Rattle.rules.specs.State.{Model, most, no_object, surface_at, buffer_at, object_at, object_place}
-use Rattle.rules.specs.Setters.{with_pending_order, with_callbacks, with_roots, with_on, with_surfaces, put_buffer, put_object}
+use Rattle.rules.specs.Setters.{with_pending_order, with_callbacks, with_roots, with_on, with_surfaces, put_object, edit_buffer}
 use Rattle.rules.specs.Run.{plain, start, edit, in_model, send, done, delete_id}
 use Rattle.rules.specs.Bounded.{Sheet, noted, bounded}
 use Rattle.rules.specs.Table.{each}
@@ -23,7 +23,7 @@ use Rattle.rules.specs.Hold.{end_waiting}
 use Rattle.bounds.specs.Sound.{Sound, Roots}
 use Rattle.bounds.proofs.Steps.{Plain}
 use Rattle.bounds.proofs.Links.{child_of, subsurface_object}
-use Rattle.bounds.proofs.Coded.{Coded, sheet, coded, pushed_fits, send_coded, end_waiting_coded, commit_coded, desync_coded, unlink_coded, destroy_coded}
+use Rattle.bounds.proofs.Coded.{Coded, sheet, coded, pushed_fits, send_coded, end_waiting_coded, commit_coded, desync_coded, unlink_coded, destroy_coded, send_living_coded}
 use Rattle.bounds.proofs.Fitting.{root_fits, child_fits}
 
 -- the events stand in the first places, and later places are as they were
@@ -111,7 +111,7 @@ module _ (old : List Event) where
   end_buffer_coded : (b : ℕ) (r : Plain) → end_buffer bounded b (coded old r) ≡ coded old (end_buffer plain b r)
   end_buffer_coded b r =
       let f = buffer_at r.model b in
-      send_coded old (delete_id f.client f.id) (in_model (λ m. put_buffer b (nameless f) (with_surfaces (each (detached b) m.surfaces) m)) r)
+      send_living_coded old (delete_id f.client) f.id (in_model (λ m. edit_buffer b nameless (with_surfaces (each (detached b) m.surfaces) m)) r)
 
   -- a request
   pub carried_coded : (m : Model) (q : Found) → Sound m → carried bounded q (coded old (start m)) ≡ coded_step old (carried plain q (start m))

@@ -10,7 +10,7 @@ use Rattle.rules.specs.declared.callback.Callback.{Callback}
 use Rattle.rules.specs.declared.stage.Stage.TheVariants.{Pending, Cached, Current}
 use Rattle.rules.specs.State.{Waiting, most, no_surface, buffer_at}
 use Rattle.rules.specs.Setters.{with_attach, with_cached, with_hold, with_mark, with_sync, with_callbacks, with_waiting, with_parent, with_roots, put_surface}
-use Rattle.rules.specs.Run.{Run, plain, at, edit, in_model, send, release, delete_id}
+use Rattle.rules.specs.Run.{Run, plain, at, edit, in_model, send, release, delete_id, send_living}
 use Rattle.rules.specs.Bounded.{Sheet, noted, bounded}
 use Rattle.rules.specs.Hold.{end_hold, end_cached, end_current, end_waiting, held}
 use Rattle.rules.specs.Callback.{advance, end_callbacks, stands}
@@ -50,11 +50,15 @@ module _ (old : List Event) where
   pub send_coded : (e : Event) (r : Plain) → send bounded e (coded old r) ≡ coded old (send plain e r)
   send_coded e r = ap (λ (s : Sheet). record { model = r.model; events = s }) (sym (fold_push noted (record { places = old; count = 0 }) r.events e))
 
+  pub send_living_coded : (event : ℕ → Event) (id : Option ℕ) (r : Plain) → send_living bounded event id (coded old r) ≡ coded old (send_living plain event id r)
+  send_living_coded event None r = refl
+  send_living_coded event (Some i) r = send_coded (event i) r
+
   -- holds
   pub end_hold_coded : (b : ℕ) (r : Plain) → end_hold bounded b (coded old r) ≡ coded old (end_hold plain b r)
   end_hold_coded b r =
       let f = buffer_at r.model b in
-      ap (λ (t : Coded). cond (eqb f.id 0) (coded old r) t) (send_coded (release f) r) ∙ cond_coded (eqb f.id 0) r (send plain (release f) r)
+      send_living_coded (release f.client) f.id r
 
   pub end_cached_coded : (a : Attach) (r : Plain) → end_cached bounded a (coded old r) ≡ coded old (end_cached plain a r)
   end_cached_coded Nothing r = refl

@@ -10,24 +10,24 @@ use Rattle.rules.specs.declared.object.Object.{Object}
 use Rattle.rules.specs.declared.object.ObjectKind.{ObjectKind}
 use Rattle.rules.specs.declared.object.ObjectKind.TheVariants.{Display, Compositor, Subcompositor, Subsurface}
 use Rattle.rules.specs.State.{Model, Surface, most, no_surface, no_object, surface_at, buffer_at, object_at}
-use Rattle.rules.specs.Setters.{with_roots, with_object, with_attach, put_surface, put_object}
+use Rattle.rules.specs.Setters.{with_roots, with_object, with_attach, with_surfaces, edit_buffer, put_surface, put_object}
 use Rattle.rules.specs.Run.{plain, start, at, edit, in_model, send, release, delete_id}
 use Rattle.rules.specs.Hold.{end_current}
 use Rattle.rules.specs.Callback.{end_callbacks}
 use Rattle.rules.specs.Table.{each_from, without}
 use Rattle.rules.specs.Unlink.{made_inert, unlink, unlink_children, destroy}
 use Rattle.rules.specs.Ask.{linked, linked_by}
-use Rattle.rules.specs.Carry.{is_held, detached, surface_of, unlink_linked, forget_object, end_subsurface, end_buffer}
+use Rattle.rules.specs.Carry.{is_held, detached, nameless, surface_of, unlink_linked, forget_object, end_subsurface, end_buffer}
 use Rattle.bounds.specs.Forest.{parent_in}
 use Rattle.bounds.specs.Sound.{Sound, Tree, Spans, Roots, kind_in, one, on_glass}
 use Rattle.bounds.proofs.Tables.{put_sum, put_here, each_related, each_length, each_sum, sum_ones}
 use Rattle.bounds.proofs.Pigeons.{once_kept}
-use Rattle.bounds.proofs.Steps.{Plain, mark_one, one_most, end_hold_model, end_callbacks_model, end_callbacks_events, LinkedAlike, alike_same}
+use Rattle.bounds.proofs.Steps.{Plain, mark_one, one_most, sent_living, end_hold_model, end_callbacks_model, end_callbacks_events, LinkedAlike, alike_same}
 use Rattle.bounds.proofs.Trees.{some_none, some_same, tree_alike}
 use Rattle.bounds.proofs.Unlinked.{Ends, TreeOf, tree_same, linked_in, ends_same, ends_then, end_callbacks_ends, unlink_ends, unlink_tree, unlink_gone, unlink_object, unlink_children_ends, unlink_children_tree}
 use Rattle.bounds.proofs.Links.{tree_replaced, tree_forgotten, tree_object_gone}
 use Rattle.bounds.proofs.Spans.{spans_nameless}
-use Rattle.bounds.proofs.Kept.{Fine}
+use Rattle.bounds.proofs.Kept.{Fine, unchanged_fine}
 
 -- a current hold ends: an event, or a wait if it had a mark
 record HoldEnds (n : ℕ) (r t : Plain) : Type 0 where
@@ -46,8 +46,8 @@ end_current_ends : (h o : Option ℕ) (r : Plain) → HoldEnds (one o) r (end_cu
 end_current_ends None o r = hold_same (one o) r
 end_current_ends (Some b) None r =
     let f = buffer_at r.model b in
-    cond_both (eqb f.id 0) r (send plain (release f) r) (HoldEnds 0 r) (λ _. hold_same 0 r)
-    (λ _. record { surfaces = refl; objects = refl; buffers = refl; size = refl; callbacks = refl; waiting = omega arith; events = omega (arith, length_push r.events (release f)) })
+    sent_living (HoldEnds 0 r) (release f.client) f.id r (hold_same 0 r)
+    (λ i. record { surfaces = refl; objects = refl; buffers = refl; size = refl; callbacks = refl; waiting = omega arith; events = omega (arith, length_push r.events (release f.client i)) })
 end_current_ends (Some b) (Some k) r =
     record { surfaces = refl; objects = refl; buffers = refl; size = refl; callbacks = refl; waiting = omega (arith, length_push r.model.waiting (record { buffer = b; mark = k })); events = omega arith }
 
@@ -197,7 +197,7 @@ module _ (m : Model) (p : ℕ) (a : Sound m) where
   sound_ended =
       record {
         tree = tree_last;
-        spans = subst (λ (bs : List Buffer). Spans last.size bs) (sym buffers_last) (subst (λ z. Spans z m.buffers) (sym size_last) a.spans);
+        spans = subst (λ (bs : List (Option Buffer)). Spans last.size bs) (sym buffers_last) (subst (λ z. Spans z m.buffers) (sym size_last) a.spans);
         glass = glass_ended;
         roots = subst Roots (sym roots_last) (roots_without p m.roots a.roots);
         callbacks = omega (arith, ap length ended.callbacks, ends₄.callbacks, ap length hold₃.callbacks, ends₁.callbacks, a.callbacks);
@@ -222,7 +222,7 @@ module _ (m : Model) (k : ℕ) (event : Event) (a : Sound m) where
       record {
         sound = record {
           tree = tree_forgotten x t.model.objects k p b n o;
-          spans = subst (λ (bs : List Buffer). Spans t.model.size bs) (sym e.buffers) (subst (λ z. Spans z m.buffers) (sym e.size) a.spans);
+          spans = subst (λ (bs : List (Option Buffer)). Spans t.model.size bs) (sym e.buffers) (subst (λ z. Spans z m.buffers) (sym e.size) a.spans);
           glass = omega (arith, put_sum no_surface mark_one refl x p (with_object None (get_or x p no_surface)), e.glass, a.glass);
           roots = subst Roots (sym e.roots) a.roots;
           callbacks = omega (arith, e.callbacks, a.callbacks);
@@ -261,15 +261,16 @@ detached_mark b p s = cond_both (is_held b s.pending.attach) (with_attach Null s
 
 pub buffer_ended_fine : (m : Model) (b : ℕ) → Sound m → Fine (end_buffer plain b (start m))
 buffer_ended_fine m b a =
+    let f = buffer_at m b in
     let t = m.surfaces in
     let u = each_from (detached b) 0 t in
+    let n = edit_buffer b nameless (with_surfaces u m) in
+    let sound : Sound n =
     record {
-      sound = record {
-        tree = tree_alike t u m.objects (each_length (detached b) 0 t) (each_related no_surface LinkedAlike (alike_same no_surface) (detached b) (detached_alike b) 0 t) a.tree;
-        spans = spans_nameless m.size m.buffers b a.spans;
-        glass = omega (arith, each_sum mark_one (detached b) (detached_mark b) 0 t, a.glass);
-        roots = a.roots;
-        callbacks = a.callbacks;
-      };
-      events = omega arith;
-    }
+      tree = tree_alike t u m.objects (each_length (detached b) 0 t) (each_related no_surface LinkedAlike (alike_same no_surface) (detached b) (detached_alike b) 0 t) a.tree;
+      spans = spans_nameless m.size m.buffers b a.spans;
+      glass = omega (arith, each_sum mark_one (detached b) (detached_mark b) 0 t, a.glass);
+      roots = a.roots;
+      callbacks = a.callbacks;
+    } in
+    sent_living Fine (delete_id f.client) f.id (start n) (unchanged_fine n sound) (λ i. record { sound = sound; events = omega arith })

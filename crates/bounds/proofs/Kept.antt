@@ -1,5 +1,5 @@
 -- A core that is kept sound, and the events of a call.
-use Rattle.std.proofs.Common.{ℕ, ◌≤◌, List, length, sym, subst, arith}
+use Rattle.std.proofs.Common.{ℕ, ◌≤◌, List, length, sym, subst, arith, Option}
 use Rattle.rules.specs.declared.object.Object.{Object}
 use Rattle.rules.specs.declared.buffer.Buffer.{Buffer}
 use Rattle.rules.specs.State.{Model, most}
@@ -18,7 +18,7 @@ sound_keeps : (n : ℕ) (r t : Plain) → Sound r.model → Keeps n r t → Soun
 sound_keeps n r t a k =
     record {
       tree = subst (λ (os : List Object). Tree t.model.surfaces os) (sym k.objects) (tree_alike r.model.surfaces t.model.surfaces r.model.objects k.places k.surfaces a.tree);
-      spans = subst (λ (bs : List Buffer). Spans t.model.size bs) (sym k.buffers) (subst (λ z. Spans z r.model.buffers) (sym k.size) a.spans);
+      spans = subst (λ (bs : List (Option Buffer)). Spans t.model.size bs) (sym k.buffers) (subst (λ z. Spans z r.model.buffers) (sym k.size) a.spans);
       glass = omega (arith, k.glass, a.glass);
       roots = subst Roots (sym k.roots) a.roots;
       callbacks = omega (arith, k.callbacks, a.callbacks);

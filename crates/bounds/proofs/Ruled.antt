@@ -1,10 +1,11 @@
 -- Every call keeps a core sound, and sends at most 160 events.
-use Rattle.std.proofs.Common.{◌≡◌, ℕ, ◌+◌, ◌*◌, ◌<◌, ◌≤◌, Bool, true, false, not, ◌&&◌, List, [], ◌∷◌, ◌++◌, length, ℤ, Ok, Err, fold, filter, sym, refl, ap, ◌∙◌, subst, inl, arith}
+use Rattle.std.proofs.Common.{◌≡◌, ℕ, ◌+◌, ◌*◌, ◌<◌, ◌≤◌, Bool, true, false, not, ◌&&◌, List, [], ◌∷◌, ◌++◌, length, ℤ, Ok, Err, fold, filter, sym, refl, ap, ◌∙◌, subst, inl, arith, Some, pos}
 use Rattle.std.proofs.ByRecursion.{All-push}
 use Rattle.std.proofs.lemmas.List.{length_push}
 use Rattle.std.proofs.lemmas.List.Sums.{length-filter, count_by-le-length}
 use Rattle.std.proofs.lemmas.Bool.{cond_both}
 use Rattle.model.specs.declared.size.Size.{Size}
+use Rattle.model.specs.Buffer.{shaped}
 use Rattle.model.specs.Output.{show_answer}
 use Rattle.rules.specs.declared.buffer.Buffer.{Buffer}
 use Rattle.rules.specs.declared.callback.Callback.{Callback}
@@ -13,12 +14,12 @@ use Rattle.rules.specs.State.{Model, Surface, most, no_surface, surface_at}
 use Rattle.rules.specs.Setters.{with_role, with_position, with_waiting, with_callbacks, with_surfaces}
 use Rattle.rules.specs.Run.{plain, start, edit, done, delete_id}
 use Rattle.rules.specs.Hold.{sweep, end_waiting}
-use Rattle.rules.specs.Table.{each_from, without}
-use Rattle.rules.specs.Walk.{Shown, shown, scene}
+use Rattle.rules.specs.Table.{each_from, without, free_place}
+use Rattle.rules.specs.Walk.{Shown, shown, scene, element_at}
 use Rattle.rules.specs.Name.{new_id, the_surface}
 use Rattle.rules.specs.Ask.{enough_places, known_client}
 use Rattle.rules.specs.Carry.{in_range}
-use Rattle.rules.specs.Call.{Step, buffer_shape, free_buffer, meets, make_buffer, is_sub, raise, make_root, right_memory, paintable, paint, marked, go_dark, switched, can_switch, switch, is_current, answer_one, answer_current, after_showing, frame, outcome, Call, request_call, buffer_call, root_call, paint_call, switch_call, frame_call, step, rule}
+use Rattle.rules.specs.Call.{Step, misplaced, make_buffer, is_sub, raise, make_root, right_memory, paintable, paint, marked, go_dark, switched, can_switch, switch, is_current, answer_one, answer_current, after_showing, frame, outcome, Call, request_call, buffer_call, root_call, paint_call, switch_call, frame_call, step, rule}
 use Rattle.bounds.specs.Sound.{Sound, Roots}
 use Rattle.bounds.proofs.Tables.{each_related, each_length, sum_ones, without_member}
 use Rattle.bounds.proofs.Pigeons.{once_added}
@@ -35,14 +36,14 @@ buffer_fine : (client id first width height stride format : ℕ) (m : Model) →
     → Accepts Fine (make_buffer client id first width height stride format m)
 buffer_fine client id first width height stride format m a =
     let new : Buffer =
-    record { used = true; client = client; id = id; first = first; width = width; height = height; stride = stride; format = format } in
+    record { client = client; id = Some id; first = first; width = width; height = height; stride = stride; format = format } in
     then Fine (known_client m client) _ λ _ _.
     then Fine (new_id m client 0 id) _ λ _ _.
-    then_unless Fine (not (buffer_shape width height stride format)) _ _ λ _.
-    then_found Fine (free_buffer m client) _ _ λ b _.
-    then_unless Fine (meets m client first (stride * height)) _ _ λ e.
+    then_unless Fine (not (shaped (element_at (pos 0) (pos 0) new))) _ _ λ _.
+    then_found Fine (free_place m.buffers) _ _ λ b _.
+    then_unless Fine (misplaced m new) _ _ λ e.
     record {
-      sound = record { tree = a.tree; spans = spans_added m client b new a.spans e; glass = a.glass; roots = a.roots; callbacks = a.callbacks };
+      sound = record { tree = a.tree; spans = spans_added m b new a.spans e; glass = a.glass; roots = a.roots; callbacks = a.callbacks };
       events = omega arith;
     }
 

@@ -4,6 +4,7 @@ use Rattle.std.proofs.lemmas.Bool.{and_parts, eqb-true, eqb-false, not-true}
 use Rattle.list.specs.Place.{place}
 use Rattle.model.specs.declared.fault.Fault.{Fault}
 use Rattle.rules.specs.State.{Model, no_surface}
+use Rattle.rules.specs.Table.{some_and, place_with}
 use Rattle.rules.specs.Station.{◌>>=◌, refuse_if, or_refuse}
 use Rattle.rules.specs.Name.{object, surface, buffer, callback, bears, named_as, or_else, only_surface, the_surface}
 use Rattle.bounds.proofs.Tables.{found_at}
@@ -46,7 +47,7 @@ pub surface_named : (m : Model) (client word id p : ℕ) → the_surface m clien
 surface_named m client word id p e =
     let x = place (λ o. bears client id o.client o.id) m.objects in
     let y = place (λ s. bears client id s.client s.id) m.surfaces in
-    let z = place (λ b. bears client id b.client b.id) m.buffers in
+    let z = place_with (λ b. some_and (bears client id b.client) b.id) m.buffers in
     let w = place (λ k. bears client id k.client k.id) m.callbacks in
     let r = found_at (λ s. bears client id s.client s.id) no_surface 0 m.surfaces p (surface_found word x y z w p e) in
     let here : r.0 ≡ p = let w = r.1 in omega arith in

@@ -1,9 +1,8 @@
 -- Steps that leave the tree as it is: what they keep, and how many events they send.
-use Rattle.std.proofs.Common.{◌≡◌, ℕ, ◌+◌, ◌≤◌, Bool, not, eqb, ◌⊎◌, List, [], ◌∷◌, length, Some, None, fold, sum_by, filter, Option, sym, refl, ap, ◌∙◌, subst, inl, inr, arith, length-set}
+use Rattle.std.proofs.Common.{◌≡◌, ℕ, ◌+◌, ◌≤◌, Bool, not, ◌⊎◌, List, [], ◌∷◌, length, Some, None, fold, sum_by, filter, Option, sym, refl, ap, ◌∙◌, subst, inl, inr, arith, length-set}
 use lib.ListN.{length-map}
 use Rattle.std.proofs.lemmas.List.Filters.{length-filter_both}
 use Rattle.std.proofs.lemmas.List.{length_push}
-use Rattle.std.proofs.lemmas.Bool.{cond_both}
 use Rattle.model.specs.declared.event.Event.{Event}
 use Rattle.rules.specs.declared.attach.Attach.{Attach}
 use Rattle.rules.specs.declared.attach.Attach.TheVariants.{Nothing, Null, Buffer as Held}
@@ -11,7 +10,7 @@ use Rattle.rules.specs.declared.callback.Callback.{Callback}
 use Rattle.rules.specs.declared.stage.Stage.{Stage}
 use Rattle.rules.specs.State.{Model, Surface, Waiting, no_surface, surface_at, buffer_at}
 use Rattle.rules.specs.Setters.{with_callbacks, with_waiting}
-use Rattle.rules.specs.Run.{Run, plain, at, edit, send, release, delete_id}
+use Rattle.rules.specs.Run.{Run, plain, at, edit, send, release, delete_id, send_living}
 use Rattle.rules.specs.Hold.{end_hold, end_cached, end_waiting}
 use Rattle.rules.specs.Callback.{advance, moved, end_callbacks}
 use Rattle.bounds.specs.Sound.{one, on_glass}
@@ -125,14 +124,21 @@ edit_keeps n p f r h m c =
       spends = omega (arith, put_sum no_surface cache_one refl r.model.surfaces p (f (at r p)), c);
     }
 
+-- an event of an object that may have ended
+pub sent_living : (P : Plain → Type 0) (event : ℕ → Event) (id : Option ℕ) (r : Plain) → P r → ((i : ℕ) → P (send plain (event i) r)) → P (send_living plain event id r)
+sent_living P event None r h k = h
+sent_living P event (Some i) r h k = k i
+
 -- a hold ends: only an event
 pub end_hold_model : (b : ℕ) (r : Plain) → (end_hold plain b r).model ≡ r.model
-end_hold_model b r = cond_both (eqb (buffer_at r.model b).id 0) r (send plain (release (buffer_at r.model b)) r) (λ (t : Plain). t.model ≡ r.model) (λ _. refl) (λ _. refl)
+end_hold_model b r =
+    let f = buffer_at r.model b in
+    sent_living (λ (t : Plain). t.model ≡ r.model) (release f.client) f.id r refl (λ i. refl)
 
 pub end_hold_events : (b : ℕ) (r : Plain) → length (end_hold plain b r).events ≤ length r.events + 1
 end_hold_events b r =
-    cond_both (eqb (buffer_at r.model b).id 0) r (send plain (release (buffer_at r.model b)) r) (λ (t : Plain). length t.events ≤ length r.events + 1)
-    (λ _. omega arith) (λ _. omega (arith, length_push r.events (release (buffer_at r.model b))))
+    let f = buffer_at r.model b in
+    sent_living (λ (t : Plain). length t.events ≤ length r.events + 1) (release f.client) f.id r (omega arith) (λ i. omega (arith, length_push r.events (release f.client i)))
 
 pub end_cached_model : (a : Attach) (r : Plain) → (end_cached plain a r).model ≡ r.model
 end_cached_model Nothing r = refl

@@ -1,11 +1,11 @@
 -- What holds of a core after any calls.
-use Rattle.std.specs.Prelude.{◌≡◌, ℕ, ◌+◌, ◌*◌, ◌<◌, ◌≤◌, Bool, true, ◌≢◌, ◌⊎◌, List, length, Some, None, sum_by, Option, slice_index_or}
+use Rattle.std.specs.Prelude.{◌≡◌, ℕ, ◌+◌, ◌<◌, ◌≤◌, Bool, true, ◌≢◌, ◌⊎◌, List, length, Some, None, sum_by, Option, slice_index_or}
 use Rattle.std.specs.List.{AllByRecursion}
 use Rattle.rules.specs.declared.buffer.Buffer.{Buffer}
 use Rattle.rules.specs.declared.object.Object.{Object}
 use Rattle.rules.specs.declared.object.ObjectKind.{ObjectKind}
 use Rattle.rules.specs.declared.object.ObjectKind.TheVariants.{Subsurface}
-use Rattle.rules.specs.State.{Model, Surface, Waiting, most, no_surface, no_buffer, no_object}
+use Rattle.rules.specs.State.{Model, Surface, Waiting, most, no_surface, no_object, buffer_span}
 use Rattle.bounds.specs.Forest.{Forest, parent_in}
 use Rattle.bounds.specs.Member.{Member, Once}
 
@@ -40,16 +40,11 @@ pub record Tree (t : List Surface) (os : List Object) : Type 0 where
   pub known : (k p : ℕ) (inert : Bool) → kind_in os k ≡ Subsurface (Some p) inert → object_in t p ≡ Some k
   pub free : (p : ℕ) → (slice_index_or t p no_surface).id ≡ 0 → object_in t p ≡ None
 
--- how many pixels the span of a buffer record has
-abbrev pub buffer_span : Buffer → ℕ
-buffer_span b = b.stride * b.height
-
 -- the spans of buffer records lie inside the pixel memory, and none meets another
-pub record Spans (size : ℕ) (bs : List Buffer) : Type 0 where
-  pub inside : (b : ℕ) → (slice_index_or bs b no_buffer).used ≡ true → (slice_index_or bs b no_buffer).first + buffer_span (slice_index_or bs b no_buffer) ≤ size
-  pub apart : (a b : ℕ) → a ≢ b → (slice_index_or bs a no_buffer).used ≡ true → (slice_index_or bs b no_buffer).used ≡ true
-      → ((slice_index_or bs a no_buffer).first + buffer_span (slice_index_or bs a no_buffer) ≤ (slice_index_or bs b no_buffer).first)
-      ⊎ ((slice_index_or bs b no_buffer).first + buffer_span (slice_index_or bs b no_buffer) ≤ (slice_index_or bs a no_buffer).first)
+pub record Spans (size : ℕ) (bs : List (Option Buffer)) : Type 0 where
+  pub inside : (a : ℕ) (f : Buffer) → slice_index_or bs a None ≡ Some f → f.first + buffer_span f ≤ size
+  pub apart : (a b : ℕ) (f g : Buffer) → a ≢ b → slice_index_or bs a None ≡ Some f → slice_index_or bs b None ≡ Some g
+      → (f.first + buffer_span f ≤ g.first) ⊎ (g.first + buffer_span g ≤ f.first)
 
 -- one, if there is something
 abbrev pub one : Option ℕ → ℕ

@@ -1,5 +1,5 @@
 -- Buffers: the commits that carried one, and where its record is.
-use Rattle.std.specs.Prelude.{ℕ, ◌+◌, Bool, false, cond, ◌&&◌, List, [], ◌∷◌, Some, None, Ok, Err, Option}
+use Rattle.std.specs.Prelude.{ℕ, ◌+◌, Bool, false, cond, ◌&&◌, List, [], ◌∷◌, Some, None, Ok, Err, Option, option_and_then}
 use Rattle.std.specs.Option.{option_or}
 use Rattle.rules.specs.State.{Model, surface_at, buffer_at}
 use Rattle.rules.specs.Hold.{held}
@@ -40,7 +40,7 @@ module _ (size : ℕ) where
   is_record o cs None = false
   is_record o cs (Some b) =
       let f = buffer_at (model_after size cs) b in
-      is_object o (last_object size cs f.client f.id)
+      is_object o (option_and_then (last_object size cs f.client) f.id)
 
   -- how many accepted commits carried the buffer o
   abbrev pub commits : Made → List Call → ℕ

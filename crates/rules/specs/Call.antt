@@ -1,11 +1,12 @@
 -- The six calls: what each answers, which events it sends, and what the core knows then.
-use Rattle.std.specs.Prelude.{ℕ, ◌+◌, ◌*◌, Bool, true, false, cond, not, ◌&&◌, ◌||◌, List, [], ◌∷◌, ◌++◌, length, take, drop, ℤ, Ok, Err, fold, filter, Option, Result, ◌==◌, nat_eq, nat_le, nat_lt}
-use Rattle.list.specs.Place.{place, any}
+use Rattle.std.specs.Prelude.{ℕ, ◌+◌, Bool, true, false, cond, not, ◌&&◌, ◌||◌, List, [], ◌∷◌, ◌++◌, length, take, drop, ℤ, pos, Some, Ok, Err, fold, filter, Result, ◌==◌, nat_eq, nat_lt}
+use Rattle.std.specs.List.{list_any}
+use Rattle.list.specs.Place.{place}
 use Rattle.model.specs.declared.element.Element.{Element}
 use Rattle.model.specs.declared.event.Event.{Event}
 use Rattle.model.specs.declared.fault.Fault.{Fault}
 use Rattle.model.specs.declared.size.Size.{Size}
-use Rattle.model.specs.Buffer.{longest}
+use Rattle.model.specs.Buffer.{shaped}
 use Rattle.model.specs.Fault.{fault}
 use Rattle.model.specs.Output.{on_answer, show_answer}
 use Rattle.rules.specs.declared.buffer.Buffer.{Buffer}
@@ -13,13 +14,13 @@ use Rattle.rules.specs.declared.callback.Callback.{Callback}
 use Rattle.rules.specs.declared.role.Role.{Role}
 use Rattle.rules.specs.declared.role.Role.TheVariants.{Plain, Root, Sub}
 use Rattle.rules.specs.declared.stage.Stage.TheVariants.{Current}
-use Rattle.rules.specs.State.{Model, Surface, surface_at, buffer_at}
+use Rattle.rules.specs.State.{Model, Surface, surface_at, buffer_at, buffer_span}
 use Rattle.rules.specs.Setters.{with_role, with_position, with_mark, with_surfaces, with_callbacks, with_roots, with_on, put_buffer}
-use Rattle.rules.specs.Table.{each, without}
+use Rattle.rules.specs.Table.{records, free_place, each, without}
 use Rattle.rules.specs.Run.{Grow, Run, plain, start, in_model, edit, send, done, delete_id}
 use Rattle.rules.specs.Hold.{busy, sweep, end_waiting}
 use Rattle.rules.specs.Callback.{same_stage}
-use Rattle.rules.specs.Walk.{Shown, shown, scene}
+use Rattle.rules.specs.Walk.{Shown, shown, element_at, scene}
 use Rattle.rules.specs.Station.{◌>>=◌, refuse_if, or_refuse}
 use Rattle.rules.specs.Name.{new_id, the_surface, the_buffer}
 use Rattle.rules.specs.Ask.{asked, enough_places, known_client}
@@ -33,33 +34,23 @@ abbrev pub request : ℕ → ℕ → List ℕ → Model → Step
 request places client bytes m = asked places client bytes m >>= λ found. carried plain found (start m)
 
 -- buffer
-abbrev pub between : ℕ → ℕ → ℕ → Bool
-between low high n = nat_le low n && nat_le n high
+-- whether the spans of two records meet: neither ends where the other begins, or before
+abbrev pub overlap : Buffer → Buffer → Bool
+overlap a b = nat_lt a.first (b.first + buffer_span b) && nat_lt b.first (a.first + buffer_span a)
 
-abbrev pub buffer_shape : ℕ → ℕ → ℕ → ℕ → Bool
-buffer_shape width height stride format =
-    between 1 longest width && between 1 longest height && between width longest stride && nat_le format 1
-
--- a free place for a buffer record of a client: the lowest
-abbrev pub free_buffer : Model → ℕ → Option ℕ
-free_buffer m client = place (λ b. not b.used) m.buffers
-
--- two spans meet if neither ends where the other begins, or before
-abbrev pub overlap : ℕ → ℕ → Buffer → Bool
-overlap first size b = b.used && (nat_lt first (b.first + b.stride * b.height) && nat_lt b.first (first + size))
-
--- a span of a client leaves the pixel memory, or meets that of another record
-abbrev pub meets : Model → ℕ → ℕ → ℕ → Bool
-meets m client first size = nat_lt m.size (first + size) || any (overlap first size) m.buffers
+-- whether the span of a new record leaves the pixel memory, or meets that of another record
+abbrev pub misplaced : Model → Buffer → Bool
+misplaced m new = nat_lt m.size (new.first + buffer_span new) || list_any (overlap new) (records m.buffers)
 
 abbrev pub make_buffer : ℕ → ℕ → ℕ → ℕ → ℕ → ℕ → ℕ → Model → Step
 make_buffer client id first width height stride format m =
+    let new : Buffer = record { client = client; id = Some id; first = first; width = width; height = height; stride = stride; format = format } in
     known_client m client >>= λ _.
     new_id m client 0 id >>= λ _.
-    refuse_if (not (buffer_shape width height stride format)) (fault 10 5 0) >>= λ _.
-    or_refuse (free_buffer m client) (fault 14 7 0) >>= λ b.
-    refuse_if (meets m client first (stride * height)) (fault 15 8 0) >>= λ _.
-    Ok (in_model (put_buffer b (record { used = true; client = client; id = id; first = first; width = width; height = height; stride = stride; format = format })) (start m))
+    refuse_if (not (shaped (element_at (pos 0) (pos 0) new))) (fault 10 5 0) >>= λ _.
+    or_refuse (free_place m.buffers) (fault 14 7 0) >>= λ b.
+    refuse_if (misplaced m new) (fault 15 8 0) >>= λ _.
+    Ok (in_model (put_buffer b new) (start m))
 
 -- root
 abbrev pub is_sub : Role → Bool
@@ -89,7 +80,7 @@ paintable client id offset count memory m =
     right_memory m memory >>= λ _.
     known_client m client >>= λ _.
     the_buffer m client 0 id >>= λ b.
-    refuse_if (nat_lt ((buffer_at m b).stride * (buffer_at m b).height) (offset + count)) (fault 10 5 0) >>= λ _.
+    refuse_if (nat_lt (buffer_span (buffer_at m b)) (offset + count)) (fault 10 5 0) >>= λ _.
     refuse_if (busy m b) (fault 16 8 0) >>= λ _.
     Ok b
 

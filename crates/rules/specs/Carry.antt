@@ -12,8 +12,8 @@ use Rattle.rules.specs.declared.role.Role.{Role}
 use Rattle.rules.specs.declared.role.Role.TheVariants.{Plain, Root, Sub}
 use Rattle.rules.specs.declared.stage.Stage.TheVariants.{Pending}
 use Rattle.rules.specs.State.{Model, Surface, no_object, surface_at, buffer_at, object_at, object_place}
-use Rattle.rules.specs.Setters.{with_role, with_parent, with_object, with_sync, with_attach, with_pending_position, with_pending_order, with_surfaces, with_callbacks, put_buffer, put_object}
-use Rattle.rules.specs.Run.{Grow, Run, in_model, at, edit, send, delete_id}
+use Rattle.rules.specs.Setters.{with_role, with_parent, with_object, with_sync, with_attach, with_pending_position, with_pending_order, with_surfaces, with_callbacks, edit_buffer, put_object}
+use Rattle.rules.specs.Run.{Grow, Run, in_model, at, edit, send, send_living, delete_id}
 use Rattle.rules.specs.Apply.{commit, desync}
 use Rattle.rules.specs.Unlink.{unlink, destroy}
 use Rattle.rules.specs.Table.{each, without}
@@ -89,7 +89,7 @@ detached b p s = cond (is_held b s.pending.attach) (with_attach Null s) s
 -- a buffer record whose object has ended
 abbrev pub nameless : Buffer → Buffer
 nameless f =
-    record { used = f.used; client = f.client; id = 0; first = f.first; width = f.width; height = f.height; stride = f.stride; format = f.format }
+    record { client = f.client; id = None; first = f.first; width = f.width; height = f.height; stride = f.stride; format = f.format }
 
 -- the surface that a sub-surface object, inert or not, still belongs to
 abbrev pub surface_of : ObjectKind → Option ℕ
@@ -137,8 +137,8 @@ module _ {E : Type 0} (g : Grow E) where
   abbrev pub end_buffer : ℕ → Run E → Run E
   end_buffer b r =
       let f = buffer_at r.model b in
-      send g (delete_id f.client f.id)
-      (in_model (λ m. put_buffer b (nameless f) (with_surfaces (each (detached b) m.surfaces) m)) r)
+      send_living g (delete_id f.client) f.id
+      (in_model (λ m. edit_buffer b nameless (with_surfaces (each (detached b) m.surfaces) m)) r)
 
   -- stations 5 to 7 of a request, and what it does
   abbrev pub carried : Found → Run E → Result (Run E) Fault

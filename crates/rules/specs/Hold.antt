@@ -1,17 +1,17 @@
 -- Holds: how they end, and when a buffer is busy.
-use Rattle.std.specs.Prelude.{ℕ, ◌+◌, Bool, cond, not, ◌&&◌, [], Some, None, fold, sum_by, Option, ◌==◌}
+use Rattle.std.specs.Prelude.{ℕ, ◌+◌, Bool, cond, not, ◌&&◌, [], is_none, Some, None, fold, sum_by, Option, option_and_then, ◌==◌}
 use Rattle.rules.specs.declared.attach.Attach.{Attach}
 use Rattle.rules.specs.declared.attach.Attach.TheVariants.{Nothing, Null, Buffer as Held}
 use Rattle.rules.specs.declared.buffer.Buffer.{Buffer}
-use Rattle.rules.specs.State.{Model, no_buffer, buffer_at}
+use Rattle.rules.specs.State.{Model, buffer_at}
 use Rattle.rules.specs.Setters.{with_waiting, with_buffers}
-use Rattle.rules.specs.Run.{Grow, Run, in_model, send, release}
+use Rattle.rules.specs.Run.{Grow, Run, in_model, send_living, release}
 use Rattle.rules.specs.Table.{each}
 
 module _ {E : Type 0} (g : Grow E) where
   -- a hold of buffer b ends: a release, if the buffer's object lives
   abbrev pub end_hold : ℕ → Run E → Run E
-  end_hold b r = cond ((buffer_at r.model b).id == 0) r (send g (release (buffer_at r.model b)) r)
+  end_hold b r = let f = buffer_at r.model b in send_living g (release f.client) f.id r
 
   abbrev pub wait : ℕ → ℕ → Run E → Run E
   wait b mark r = in_model (λ m. with_waiting (g.waited m.waiting (record { buffer = b; mark = mark })) m) r
@@ -51,8 +51,8 @@ abbrev pub busy : Model → ℕ → Bool
 busy m b = not (holds m b == 0)
 
 -- a record whose object has ended goes with its last hold
-abbrev pub kept : Model → ℕ → Buffer → Buffer
-kept m b f = cond (f.id == 0 && not (busy m b)) no_buffer f
+abbrev pub kept : Model → ℕ → Buffer → Option Buffer
+kept m b f = cond (is_none f.id && not (busy m b)) None (Some f)
 
 abbrev pub sweep : Model → Model
-sweep m = with_buffers (each (kept m) m.buffers) m
+sweep m = with_buffers (each (λ b. option_and_then (kept m b)) m.buffers) m

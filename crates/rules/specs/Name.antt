@@ -8,6 +8,7 @@ use Rattle.model.specs.Fault.{fault}
 use Rattle.rules.specs.declared.object.ObjectKind.{ObjectKind}
 use Rattle.rules.specs.declared.object.ObjectKind.TheVariants.{Display, Compositor, Subcompositor, Subsurface}
 use Rattle.rules.specs.State.{Model, object_at}
+use Rattle.rules.specs.Table.{some_and, place_with}
 use Rattle.rules.specs.Station.{refuse_if}
 
 -- an object that an id names: a global or a sub-surface object by its place in the table of objects, any other by that of its record
@@ -34,7 +35,7 @@ abbrev pub named : Model → ℕ → ℕ → Option Named
 named m client id =
     or_else (named_as object (place (λ o. bears client id o.client o.id) m.objects))
     (or_else (named_as surface (place (λ s. bears client id s.client s.id) m.surfaces))
-    (or_else (named_as buffer (place (λ b. bears client id b.client b.id) m.buffers))
+    (or_else (named_as buffer (place_with (λ b. some_and (bears client id b.client) b.id) m.buffers))
     (named_as callback (place (λ k. bears client id k.client k.id) m.callbacks))))
 
 abbrev pub kind_interface : ObjectKind → Interface

@@ -1,7 +1,7 @@
 -- The core in the midst of a call, and how its lists grow.
-use Rattle.std.specs.Prelude.{ℕ, List, [], ◌∷◌, ◌++◌}
+use Rattle.std.specs.Prelude.{ℕ, List, [], Some, None, Option}
+use Rattle.std.specs.List.{push}
 use Rattle.model.specs.declared.event.Event.{Event}
-use Rattle.rules.specs.declared.buffer.Buffer.{Buffer}
 use Rattle.rules.specs.declared.callback.Callback.{Callback}
 use Rattle.rules.specs.State.{Model, Surface, Waiting, surface_at}
 use Rattle.rules.specs.Setters.{edit_surface}
@@ -14,12 +14,9 @@ pub record Grow (E : Type 0) : Type 0 where
   pub waited : List Waiting → Waiting → List Waiting
   pub asked : List Callback → Callback → List Callback
 
--- one more at the end, without a bound
-abbrev pub added : {A : Type 0} → List A → A → List A
-added xs x = xs ++ x ∷ []
-
+-- by one more at the end, without a bound
 abbrev pub plain : Grow (List Event)
-plain = record { sent = added; ordered = added; rooted = added; waited = added; asked = added }
+plain = record { sent = push; ordered = push; rooted = push; waited = push; asked = push }
 
 pub record Run (E : Type 0) : Type 0 where
   pub model : Model
@@ -41,12 +38,17 @@ module _ {E : Type 0} where
   abbrev pub send : Grow E → Event → Run E → Run E
   send g e r = record { model = r.model; events = g.sent r.events e }
 
+  -- an event of an object by its id, if the object lives
+  abbrev pub send_living : Grow E → (ℕ → Event) → Option ℕ → Run E → Run E
+  send_living g event None r = r
+  send_living g event (Some id) r = send g (event id) r
+
 -- the events
 abbrev pub done : Callback → ℕ → Event
 done k time = record { client = k.client; object = k.id; opcode = 0; value = time }
 
-abbrev pub release : Buffer → Event
-release b = record { client = b.client; object = b.id; opcode = 0; value = 0 }
+abbrev pub release : ℕ → ℕ → Event
+release client id = record { client = client; object = id; opcode = 0; value = 0 }
 
 abbrev pub delete_id : ℕ → ℕ → Event
 delete_id client id = record { client = client; object = 1; opcode = 1; value = id }

@@ -1,10 +1,11 @@
 -- States with one field changed.
-use Rattle.std.specs.Prelude.{ℕ, Bool, List, ℤ, Option, slice_set}
+use Rattle.std.specs.Prelude.{ℕ, Bool, List, ℤ, Some, Option, slice_set}
 use Rattle.rules.specs.declared.attach.Attach.{Attach}
 use Rattle.rules.specs.declared.buffer.Buffer.{Buffer}
 use Rattle.rules.specs.declared.callback.Callback.{Callback}
 use Rattle.rules.specs.declared.object.Object.{Object}
 use Rattle.rules.specs.declared.role.Role.{Role}
+use Rattle.rules.specs.Table.{changed}
 use Rattle.rules.specs.State.{Model, Surface, Pending, Current, Waiting, surface_at}
 
 -- a surface with another pending or current state
@@ -66,7 +67,7 @@ abbrev pub with_surfaces : List Surface → Model → Model
 with_surfaces v m =
     record { surfaces = v; buffers = m.buffers; callbacks = m.callbacks; objects = m.objects; roots = m.roots; waiting = m.waiting; on = m.on; size = m.size }
 
-abbrev pub with_buffers : List Buffer → Model → Model
+abbrev pub with_buffers : List (Option Buffer) → Model → Model
 with_buffers v m =
     record { surfaces = m.surfaces; buffers = v; callbacks = m.callbacks; objects = m.objects; roots = m.roots; waiting = m.waiting; on = m.on; size = m.size }
 
@@ -95,10 +96,13 @@ abbrev pub put_surface : ℕ → Surface → Model → Model
 put_surface p s m = with_surfaces (slice_set m.surfaces p s) m
 
 abbrev pub put_buffer : ℕ → Buffer → Model → Model
-put_buffer b f m = with_buffers (slice_set m.buffers b f) m
+put_buffer b f m = with_buffers (slice_set m.buffers b (Some f)) m
 
 abbrev pub put_object : ℕ → Object → Model → Model
 put_object k o m = with_objects (slice_set m.objects k o) m
+
+abbrev pub edit_buffer : ℕ → (Buffer → Buffer) → Model → Model
+edit_buffer b f m = with_buffers (changed b f m.buffers) m
 
 abbrev pub edit_surface : ℕ → (Surface → Surface) → Model → Model
 edit_surface p f m = put_surface p (f (surface_at m p)) m

@@ -8,6 +8,7 @@ use Rattle.rules.specs.declared.object.Object.{Object}
 use Rattle.rules.specs.declared.object.ObjectKind.TheVariants.{Display, Compositor, Subcompositor}
 use Rattle.rules.specs.declared.role.Role.{Role}
 use Rattle.rules.specs.declared.role.Role.TheVariants.{Plain}
+use Rattle.rules.specs.Table.{record_at}
 
 -- an order lists the surface's own place and those of its children, bottom first
 pub record Pending : Type 0 where
@@ -43,7 +44,7 @@ pub record Waiting : Type 0 where
 
 pub record Model : Type 0 where
   pub surfaces : List Surface
-  pub buffers : List Buffer
+  pub buffers : List (Option Buffer)
   -- in the order in which they were asked for
   pub callbacks : List Callback
   pub objects : List Object
@@ -55,6 +56,7 @@ pub record Model : Type 0 where
   -- how many pixels the pixel memory has
   pub size : ℕ
 
+-- what a place without a record is read as
 abbrev pub no_surface : Surface
 no_surface =
     record {
@@ -70,7 +72,7 @@ no_surface =
     }
 
 abbrev pub no_buffer : Buffer
-no_buffer = record { used = false; client = 0; id = 0; first = 0; width = 0; height = 0; stride = 0; format = 0 }
+no_buffer = record { client = 0; id = None; first = 0; width = 0; height = 0; stride = 0; format = 0 }
 
 abbrev pub no_object : Object
 no_object = record { client = 0; id = 0; kind = Display }
@@ -97,7 +99,7 @@ abbrev pub empty : ℕ → Model
 empty size =
     record {
       surfaces = replicate most no_surface;
-      buffers = replicate most no_buffer;
+      buffers = replicate most None;
       callbacks = [];
       objects = globals 0 ++ globals 1 ++ globals 2 ++ globals 3;
       roots = [];
@@ -106,11 +108,16 @@ empty size =
       size = min size 16_777_216;
     }
 
+-- the records by their places
 abbrev pub surface_at : Model → ℕ → Surface
 surface_at m p = slice_index_or m.surfaces p no_surface
 
 abbrev pub buffer_at : Model → ℕ → Buffer
-buffer_at m b = slice_index_or m.buffers b no_buffer
+buffer_at m b = record_at no_buffer m.buffers b
+
+-- how many pixels the span of a buffer record has
+abbrev pub buffer_span : Buffer → ℕ
+buffer_span b = b.stride * b.height
 
 abbrev pub object_at : Model → ℕ → Object
 object_at m k = slice_index_or m.objects k no_object

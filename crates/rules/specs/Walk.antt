@@ -1,6 +1,7 @@
 -- The scene: which surfaces are shown, and where.
 use Rattle.std.specs.Prelude.{ℕ, zero, suc, cond, List, [], ◌∷◌, ◌++◌, map, ℤ, ◌+ℤ◌, Some, None, Option, ◌==◌}
 use Rattle.model.specs.declared.element.Element.{Element}
+use Rattle.rules.specs.declared.buffer.Buffer.{Buffer}
 use Rattle.rules.specs.State.{Model, surface_at, buffer_at}
 
 -- a surface that is shown: its place, the buffer that it holds, and its position on the output
@@ -36,10 +37,13 @@ walk_roots m (p ∷ ps) = walk_in 32 m (surface_at m p).current.x (surface_at m 
 abbrev pub shown : Model → List Shown
 shown m = walk_roots m m.roots
 
+-- a buffer record as an element at x, y
+abbrev pub element_at : ℤ → ℤ → Buffer → Element
+element_at x y b =
+    record { x = x; y = y; first = b.first; width = b.width; height = b.height; stride = b.stride; format = b.format }
+
 abbrev pub element_of : Model → Shown → Element
-element_of m s =
-    let b = buffer_at m s.buffer in
-    record { x = s.x; y = s.y; first = b.first; width = b.width; height = b.height; stride = b.stride; format = b.format }
+element_of m s = element_at s.x s.y (buffer_at m s.buffer)
 
 abbrev pub scene : Model → List Element
 scene m = map (element_of m) (shown m)

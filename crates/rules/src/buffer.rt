@@ -2,14 +2,13 @@
 
 #[derive(Clone, Copy, PartialEq, Eq, Debug)]
 pub struct Buffer {
-    // A record that is not in use is free.
-    pub used: bool,
     pub client: u32,
-    // 0 once the object has ended.
-    pub id: u32,
+    // None once the object has ended.
+    pub id: Option<u32>,
     pub first: u32,
     pub width: u32,
     pub height: u32,
     pub stride: u32,
+    // A number as in an element, since each scene makes an element of the record.
     pub format: u32,
 }
