@@ -8,15 +8,15 @@ use Rattle.model.specs.declared.event.Event.{Event}
 use Rattle.model.specs.declared.fault.Fault.{Fault}
 use Rattle.rules.specs.declared.callback.Callback.{Callback}
 use Rattle.rules.specs.declared.stage.Stage.TheVariants.{Pending}
-use Rattle.rules.specs.State.{Model, most, no_object, surface_at, buffer_at, object_at, object_place}
-use Rattle.rules.specs.Setters.{with_pending_order, with_callbacks, with_roots, with_on, with_surfaces, put_object, edit_buffer}
+use Rattle.rules.specs.State.{surface_of, Model, most, surface_at, buffer_at, object_at, object_place}
+use Rattle.rules.specs.Setters.{with_pending_order, with_callbacks, with_roots, with_on, with_surfaces, put_object, edit_buffer, free_object}
 use Rattle.rules.specs.Run.{plain, start, edit, in_model, send, done, delete_id}
 use Rattle.rules.specs.Bounded.{Sheet, noted, bounded}
 use Rattle.rules.specs.Table.{each}
 use Rattle.rules.specs.Tree.{descends}
 use Rattle.rules.specs.Station.{◌>>=◌, refuse_if, or_refuse}
 use Rattle.rules.specs.Ask.{Found, create_surface, get_subsurface, destroy_surface, attach, damage, ask_frame, commit_surface, destroy_subsurface, set_position, place_beside, set_sync, set_desync, destroy_buffer, linked}
-use Rattle.rules.specs.Carry.{free_surface, spoken_for, crowded, full_callbacks, in_range, is_zero, siblings, adopt, place_in, unless_inert, unlink_linked, forget_object, surface_of, end_subsurface, nameless, detached, end_buffer, carried}
+use Rattle.rules.specs.Carry.{free_surface, spoken_for, crowded, full_callbacks, in_range, is_zero, siblings, adopt, place_in, unless_inert, unlink_linked, forget_object, end_subsurface, nameless, detached, end_buffer, carried}
 use Rattle.rules.specs.Walk.{Shown}
 use Rattle.rules.specs.Call.{raise, mark, switched, is_current, answer_one, answer_current, after_showing}
 use Rattle.rules.specs.Hold.{end_waiting}
@@ -104,9 +104,9 @@ module _ (old : List Event) where
       let o = object_at r.model k in
       let event = delete_id o.client o.id in
       let u = unlink_linked plain p r in
-      ap (λ (t : Coded). send bounded event (in_model (put_object k no_object) (forget_object bounded (surface_of o.kind) t))) (unlink_linked_coded p r)
-      ∙ ap (λ (t : Coded). send bounded event (in_model (put_object k no_object) t)) (forget_object_coded (surface_of o.kind) u)
-      ∙ send_coded old event (in_model (put_object k no_object) (forget_object plain (surface_of o.kind) u))
+      ap (λ (t : Coded). send bounded event (in_model (free_object k) (forget_object bounded (surface_of o.kind) t))) (unlink_linked_coded p r)
+      ∙ ap (λ (t : Coded). send bounded event (in_model (free_object k) t)) (forget_object_coded (surface_of o.kind) u)
+      ∙ send_coded old event (in_model (free_object k) (forget_object plain (surface_of o.kind) u))
 
   end_buffer_coded : (b : ℕ) (r : Plain) → end_buffer bounded b (coded old r) ≡ coded old (end_buffer plain b r)
   end_buffer_coded b r =

@@ -1,31 +1,32 @@
 -- Requests that end a surface, a sub-surface object or a buffer.
-use Rattle.std.proofs.Common.{◌≡◌, ℕ, ◌+◌, ◌<◌, ◌≤◌, Bool, true, false, not, eqb, List, length, get_or, set, Some, None, sum_by, Option, sym, refl, ap, ◌∙◌, subst, inl, inr, arith, get_or-set_other}
+use Rattle.std.proofs.Common.{◌≡◌, ℕ, ◌+◌, ◌<◌, ◌≤◌, not, eqb, List, length, get_or, set, Some, None, sum_by, Option, sym, refl, ap, ◌∙◌, subst, inl, inr, arith, get_or-set_other, option_map}
 use Rattle.std.proofs.ByRecursion.{all_kept_by}
 use Rattle.std.proofs.lemmas.List.{length_push}
 use Rattle.std.proofs.lemmas.Bool.{cases_eq, cond_both}
+use Rattle.std.proofs.lemmas.Option.{none-some, same_Some}
 use Rattle.model.specs.declared.event.Event.{Event}
 use Rattle.rules.specs.declared.attach.Attach.TheVariants.{Null}
 use Rattle.rules.specs.declared.buffer.Buffer.{Buffer}
 use Rattle.rules.specs.declared.object.Object.{Object}
 use Rattle.rules.specs.declared.object.ObjectKind.{ObjectKind}
-use Rattle.rules.specs.declared.object.ObjectKind.TheVariants.{Display, Compositor, Subcompositor, Subsurface}
-use Rattle.rules.specs.State.{Model, Surface, most, no_surface, no_object, surface_at, buffer_at, object_at}
-use Rattle.rules.specs.Setters.{with_roots, with_object, with_attach, with_surfaces, edit_buffer, put_surface, put_object}
+use Rattle.rules.specs.declared.object.ObjectKind.TheVariants.{Display, Compositor, Subcompositor, Subsurface, InertSubsurface}
+use Rattle.rules.specs.State.{surface_of, Model, Surface, most, no_surface, surface_at, buffer_at, object_at}
+use Rattle.rules.specs.Setters.{with_roots, with_object, with_attach, with_surfaces, edit_buffer, put_surface, free_object}
 use Rattle.rules.specs.Run.{plain, start, at, edit, in_model, send, release, delete_id}
 use Rattle.rules.specs.Hold.{end_current}
 use Rattle.rules.specs.Callback.{end_callbacks}
-use Rattle.rules.specs.Table.{each_from, without}
-use Rattle.rules.specs.Unlink.{made_inert, unlink, unlink_children, destroy}
+use Rattle.rules.specs.Table.{changed, each_from, without}
+use Rattle.rules.specs.Unlink.{as_inert, made_inert, unlink, unlink_children, destroy}
 use Rattle.rules.specs.Ask.{linked, linked_by}
-use Rattle.rules.specs.Carry.{is_held, detached, nameless, surface_of, unlink_linked, forget_object, end_subsurface, end_buffer}
+use Rattle.rules.specs.Carry.{is_held, detached, nameless, unlink_linked, forget_object, end_subsurface, end_buffer}
 use Rattle.bounds.specs.Forest.{parent_in}
 use Rattle.bounds.specs.Sound.{Sound, Tree, Spans, Roots, kind_in, one, on_glass}
 use Rattle.bounds.proofs.Tables.{put_sum, put_here, each_related, each_length, each_sum, sum_ones}
 use Rattle.bounds.proofs.Pigeons.{once_kept}
 use Rattle.bounds.proofs.Steps.{Plain, mark_one, one_most, sent_living, end_hold_model, end_callbacks_model, end_callbacks_events, LinkedAlike, alike_same}
-use Rattle.bounds.proofs.Trees.{some_none, some_same, tree_alike}
+use Rattle.bounds.proofs.Trees.{tree_alike}
 use Rattle.bounds.proofs.Unlinked.{Ends, TreeOf, tree_same, linked_in, ends_same, ends_then, end_callbacks_ends, unlink_ends, unlink_tree, unlink_gone, unlink_object, unlink_children_ends, unlink_children_tree}
-use Rattle.bounds.proofs.Links.{tree_replaced, tree_forgotten, tree_object_gone}
+use Rattle.bounds.proofs.Links.{kind_of, tree_replaced, tree_forgotten, tree_object_gone}
 use Rattle.bounds.proofs.Spans.{spans_nameless}
 use Rattle.bounds.proofs.Kept.{Fine, unchanged_fine}
 
@@ -57,29 +58,32 @@ end_current_roots (Some b) None r = ap (λ (m : Model). m.roots) (end_hold_model
 end_current_roots (Some b) (Some k) r = refl
 
 -- the sub-surface object of a surface that ends has no surface any more
-abbrev orphaned : Option ℕ → List Object → List Object
+abbrev orphaned : Option ℕ → List (Option Object) → List (Option Object)
 orphaned None os = os
-orphaned (Some k) os = set os k (record { client = (get_or os k no_object).client; id = (get_or os k no_object).id; kind = Subsurface None true })
+orphaned (Some k) os = changed k (as_inert None) os
 
-orphaned_kinds : (o : Option ℕ) (os : List Object) (k x : ℕ) (i : Bool) → kind_in (orphaned o os) k ≡ Subsurface (Some x) i → (kind_in os k ≡ Subsurface (Some x) i) × (o ≡ Some k → ⊥)
-orphaned_kinds None os k x i e = (e, λ z. some_none k (sym z))
-orphaned_kinds (Some j) os k x i e =
-    let new : Object = record { client = (get_or os j no_object).client; id = (get_or os j no_object).id; kind = Subsurface None true } in
+orphan : (x : ℕ) (o : Option Object) → surface_of (kind_of (option_map (as_inert None) o)) ≡ Some x → ⊥
+orphan x None e = none-some x e
+orphan x (Some v) e = none-some x e
+
+orphaned_kinds : (o : Option ℕ) (os : List (Option Object)) (k x : ℕ) → surface_of (kind_in (orphaned o os) k) ≡ Some x → (kind_in (orphaned o os) k ≡ kind_in os k) × (o ≡ Some k → ⊥)
+orphaned_kinds None os k x e = (refl, none-some k)
+orphaned_kinds (Some j) os k x e =
+    let new = option_map (as_inert None) (get_or os j None) in
     elim (cases_eq k j) [
-      | inl z ↦ absurd (put_here no_object (λ (v : Object). v.kind ≡ Subsurface (Some x) i → ⊥) os j new
-          (λ h. let w : ◌≡◌ {A = ℕ} 0 1 = cc in omega arith) (λ h. let w : ◌≡◌ {A = ℕ} 0 1 = cc in omega arith)
-          (subst (λ y. kind_in (orphaned (Some j) os) y ≡ Subsurface (Some x) i) z e))
-      | inr n ↦ (sym (ap (λ (v : Object). v.kind) (get_or-set_other os j k new no_object n)) ∙ e, λ h. n (sym (some_same j k h)))
+      | inl z ↦ absurd (put_here None (λ o. surface_of (kind_of o) ≡ Some x → ⊥) os j new (orphan x (get_or os j None)) (none-some x)
+          (subst (λ y. surface_of (kind_in (orphaned (Some j) os) y) ≡ Some x) z e))
+      | inr n ↦ (ap kind_of (get_or-set_other os j k new None n), λ h. n (sym (same_Some j k h)))
     ]
 
 ended_tree : (p : ℕ) (o : Option ℕ) (m : Model) → (surface_at m p).object ≡ o → (surface_at m p).parent ≡ None → Tree m.surfaces m.objects
     → Tree (put_surface p no_surface (made_inert o None m)).surfaces (put_surface p no_surface (made_inert o None m)).objects
 ended_tree p None m e n a =
     tree_replaced m.surfaces m.objects (orphaned None m.objects) p no_surface a n refl refl tt (λ c k. absurd k) (λ c k. absurd k)
-    (λ k x i h. let w = orphaned_kinds None m.objects k x i h in (w.0, λ z. w.1 (sym e ∙ z)))
+    (λ k x h. let w = orphaned_kinds None m.objects k x h in (w.0, λ z. w.1 (sym e ∙ z)))
 ended_tree p (Some j) m e n a =
     tree_replaced m.surfaces m.objects (orphaned (Some j) m.objects) p no_surface a n refl refl tt (λ c k. absurd k) (λ c k. absurd k)
-    (λ k x i h. let w = orphaned_kinds (Some j) m.objects k x i h in (w.0, λ z. w.1 (sym e ∙ z)))
+    (λ k x h. let w = orphaned_kinds (Some j) m.objects k x h in (w.0, λ z. w.1 (sym e ∙ z)))
 
 -- a root less
 pub roots_without : (p : ℕ) (ps : List ℕ) → Roots ps → Roots (without p ps)
@@ -216,7 +220,7 @@ module _ (m : Model) (p : ℕ) (a : Sound m) where
 -- wl_subsurface.destroy, after the surface was unlinked
 module _ (m : Model) (k : ℕ) (event : Event) (a : Sound m) where
   forgotten : (p : ℕ) (t : Plain) → Ends 0 (start m) t → TreeOf t → (at t p).parent ≡ None → (at t p).object ≡ Some k
-      → Fine (send plain event (in_model (put_object k no_object) (edit p (with_object None) t)))
+      → Fine (send plain event (in_model (free_object k) (edit p (with_object None) t)))
   forgotten p t e b n o =
       let x = t.model.surfaces in
       record {
@@ -230,7 +234,7 @@ module _ (m : Model) (k : ℕ) (event : Event) (a : Sound m) where
         events = omega (arith, length_push t.events event, e.owes, linked_few m a, a.callbacks);
       }
 
-  object_gone : Fine (send plain event (in_model (put_object k no_object) (start m)))
+  object_gone : Fine (send plain event (in_model (free_object k) (start m)))
   object_gone =
       record {
         sound = record { tree = tree_object_gone m.surfaces m.objects k a.tree; spans = a.spans; glass = a.glass; roots = a.roots; callbacks = a.callbacks };
@@ -238,15 +242,14 @@ module _ (m : Model) (k : ℕ) (event : Event) (a : Sound m) where
       }
 
   subsurface_gone : (kind : ObjectKind) → (object_at m k).kind ≡ kind
-      → Fine (send plain event (in_model (put_object k no_object) (forget_object plain (surface_of kind) (unlink_linked plain (linked_by kind) (start m)))))
+      → Fine (send plain event (in_model (free_object k) (forget_object plain (surface_of kind) (unlink_linked plain (linked_by kind) (start m)))))
   subsurface_gone Display e = object_gone
   subsurface_gone Compositor e = object_gone
   subsurface_gone Subcompositor e = object_gone
-  subsurface_gone (Subsurface None true) e = object_gone
-  subsurface_gone (Subsurface None false) e = object_gone
-  subsurface_gone (Subsurface (Some p) true) e = forgotten p (start m) (ends_same (start m)) a.tree (a.tree.inert k p e) (a.tree.known k p true e)
-  subsurface_gone (Subsurface (Some p) false) e =
-      forgotten p (unlink plain p (start m)) (unlink_ends p (start m)) (unlink_tree p (start m) a.tree) (unlink_gone p (start m)) (unlink_object p (start m) ∙ a.tree.known k p false e)
+  subsurface_gone (InertSubsurface None) e = object_gone
+  subsurface_gone (InertSubsurface (Some p)) e = forgotten p (start m) (ends_same (start m)) a.tree (a.tree.inert k p e) (a.tree.known k p (ap surface_of e))
+  subsurface_gone (Subsurface p) e =
+      forgotten p (unlink plain p (start m)) (unlink_ends p (start m)) (unlink_tree p (start m) a.tree) (unlink_gone p (start m)) (unlink_object p (start m) ∙ a.tree.known k p (ap surface_of e))
 
 pub subsurface_ended_fine : (m : Model) (k : ℕ) → Sound m → Fine (end_subsurface plain k (linked m k) (start m))
 subsurface_ended_fine m k a = subsurface_gone m k (delete_id (object_at m k).client (object_at m k).id) a (object_at m k).kind refl

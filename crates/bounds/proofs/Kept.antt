@@ -17,7 +17,7 @@ pub record Fine (r : Plain) : Type 0 where
 sound_keeps : (n : ℕ) (r t : Plain) → Sound r.model → Keeps n r t → Sound t.model
 sound_keeps n r t a k =
     record {
-      tree = subst (λ (os : List Object). Tree t.model.surfaces os) (sym k.objects) (tree_alike r.model.surfaces t.model.surfaces r.model.objects k.places k.surfaces a.tree);
+      tree = subst (λ (os : List (Option Object)). Tree t.model.surfaces os) (sym k.objects) (tree_alike r.model.surfaces t.model.surfaces r.model.objects k.places k.surfaces a.tree);
       spans = subst (λ (bs : List (Option Buffer)). Spans t.model.size bs) (sym k.buffers) (subst (λ z. Spans z r.model.buffers) (sym k.size) a.spans);
       glass = omega (arith, k.glass, a.glass);
       roots = subst Roots (sym k.roots) a.roots;

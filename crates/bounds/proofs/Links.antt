@@ -1,11 +1,12 @@
 -- The tree as surfaces are made, adopted, placed and ended, and as sub-surface objects end.
-use Rattle.std.proofs.Common.{◌≡◌, ℕ, ◌<◌, Bool, true, false, ◌≢◌, ◌⊎◌, List, [], ◌∷◌, ◌++◌, length, get_or, set, pos, Some, None, Option, sym, refl, ap, ◌∙◌, subst, inl, inr, true≢false, arith, length-set, get_or-set_other, get_or-set_same}
+use Rattle.std.proofs.Common.{◌≡◌, ℕ, ◌<◌, true, ◌≢◌, ◌⊎◌, List, [], ◌∷◌, ◌++◌, length, get_or, set, pos, Some, None, Option, sym, refl, ap, ◌∙◌, subst, inl, inr, arith, length-set, get_or-set_other, get_or-set_same, unwrap_or}
 use Rattle.std.proofs.lemmas.Bool.{cases_eq}
+use Rattle.std.proofs.lemmas.Option.{none-some, same_Some}
 use Rattle.rules.specs.declared.object.Object.{Object}
 use Rattle.rules.specs.declared.object.ObjectKind.{ObjectKind}
-use Rattle.rules.specs.declared.object.ObjectKind.TheVariants.{Display, Subsurface}
+use Rattle.rules.specs.declared.object.ObjectKind.TheVariants.{Subsurface, InertSubsurface}
 use Rattle.rules.specs.declared.role.Role.TheVariants.{Sub}
-use Rattle.rules.specs.State.{Surface, no_surface, no_object}
+use Rattle.rules.specs.State.{surface_of, Surface, no_surface, no_object}
 use Rattle.rules.specs.Setters.{with_object, with_parent, with_role, with_sync, with_pending_position, with_pending_order}
 use Rattle.bounds.specs.Forest.{parent_in, Climb, stay}
 use Rattle.bounds.specs.Member.{Member, Once}
@@ -15,34 +16,38 @@ use Rattle.bounds.proofs.Pigeons.{once_added}
 use Rattle.bounds.proofs.Forests.{pruned, adopted}
 use Rattle.bounds.proofs.Trees.{some_none, some_same, id_in}
 
-not_display : (x : Option ℕ) (i : Bool) → ◌≡◌ {A = ObjectKind} Display (Subsurface x i) → ⊥
-not_display x i e = let z : ◌≡◌ {A = ℕ} 0 1 = cc in omega arith
+not_inert : (p : ℕ) (o : Option ℕ) → ◌≡◌ {A = ObjectKind} (Subsurface p) (InertSubsurface o) → ⊥
+not_inert p o e = let z : ◌≡◌ {A = ℕ} 0 1 = cc in omega arith
+
+-- the kind in a place of a table of objects
+abbrev pub kind_of : Option Object → ObjectKind
+kind_of o = (unwrap_or o no_object).kind
 
 -- fewer sub-surface objects
-pub tree_fewer : (t : List Surface) (os ps : List Object) → ((k x : ℕ) (i : Bool) → kind_in ps k ≡ Subsurface (Some x) i → kind_in os k ≡ Subsurface (Some x) i) → Tree t os → Tree t ps
+pub tree_fewer : (t : List Surface) (os ps : List (Option Object)) → ((k x : ℕ) → surface_of (kind_in ps k) ≡ Some x → kind_in ps k ≡ kind_in os k) → Tree t os → Tree t ps
 tree_fewer t os ps h a =
     record {
       orders = a.orders;
       linked = a.linked;
-      inert = λ k x e. a.inert k x (h k x true e);
-      known = λ k x i e. a.known k x i (h k x i e);
+      inert = λ k x e. a.inert k x (sym (h k x (ap surface_of e)) ∙ e);
+      known = λ k x e. a.known k x (ap surface_of (sym (h k x e)) ∙ e);
       free = a.free;
     }
 
 -- the sub-surface object at k is gone
-gone_kinds : (os : List Object) (k j x : ℕ) (i : Bool) → kind_in (set os k no_object) j ≡ Subsurface (Some x) i → (kind_in os j ≡ Subsurface (Some x) i) × (j ≢ k)
-gone_kinds os k j x i e =
+gone_kinds : (os : List (Option Object)) (k j x : ℕ) → surface_of (kind_in (set os k None) j) ≡ Some x → (kind_in (set os k None) j ≡ kind_in os j) × (j ≢ k)
+gone_kinds os k j x e =
     elim (cases_eq j k) [
-      | inl z ↦ absurd (put_here no_object (λ (v : Object). v.kind ≡ Subsurface (Some x) i → ⊥) os k no_object (not_display (Some x) i) (not_display (Some x) i)
-          (subst (λ y. kind_in (set os k no_object) y ≡ Subsurface (Some x) i) z e))
-      | inr n ↦ (sym (ap (λ (v : Object). v.kind) (get_or-set_other os k j no_object no_object n)) ∙ e, n)
+      | inl z ↦ absurd (put_here None (λ o. surface_of (kind_of o) ≡ Some x → ⊥) os k None (none-some x) (none-some x)
+          (subst (λ y. surface_of (kind_in (set os k None) y) ≡ Some x) z e))
+      | inr n ↦ (ap kind_of (get_or-set_other os k j None None n), n)
     ]
 
-pub tree_object_gone : (t : List Surface) (os : List Object) (k : ℕ) → Tree t os → Tree t (set os k no_object)
-tree_object_gone t os k a = tree_fewer t os (set os k no_object) (λ j x i e. (gone_kinds os k j x i e).0) a
+pub tree_object_gone : (t : List Surface) (os : List (Option Object)) (k : ℕ) → Tree t os → Tree t (set os k None)
+tree_object_gone t os k a = tree_fewer t os (set os k None) (λ j x e. (gone_kinds os k j x e).0) a
 
 -- and its surface, which has no parent, forgets it
-module _ (t : List Surface) (os : List Object) (k p : ℕ) (a : Tree t os) (alone : parent_in t p ≡ None) (its : object_in t p ≡ Some k) where
+module _ (t : List Surface) (os : List (Option Object)) (k p : ℕ) (a : Tree t os) (alone : parent_in t p ≡ None) (its : object_in t p ≡ Some k) where
   forgetting : Surface
   forgetting = with_object None (get_or t p no_surface)
 
@@ -71,10 +76,10 @@ module _ (t : List Surface) (os : List Object) (k p : ℕ) (a : Tree t os) (alon
         | inr z ↦ a.linked x q was (sym (object_kept x z) ∙ n)
       ]
 
-  known_forgotten : (j x : ℕ) (i : Bool) → kind_in (set os k no_object) j ≡ Subsurface (Some x) i → object_in (set t p forgetting) x ≡ Some j
-  known_forgotten j x i e =
-      let g = gone_kinds os k j x i e in
-      let o = a.known j x i g.0 in
+  known_forgotten : (j x : ℕ) → surface_of (kind_in (set os k None) j) ≡ Some x → object_in (set t p forgetting) x ≡ Some j
+  known_forgotten j x e =
+      let g = gone_kinds os k j x e in
+      let o = a.known j x (ap surface_of (sym g.0) ∙ e) in
       elim (cases_eq x p) [
         | inl z ↦ absurd (g.1 (some_same j k (sym (subst (λ y. object_in t y ≡ Some j) z o) ∙ its)))
         | inr z ↦ object_kept x z ∙ o
@@ -87,7 +92,7 @@ module _ (t : List Surface) (os : List Object) (k p : ℕ) (a : Tree t os) (alon
         | inr z ↦ object_kept x z ∙ a.free x (sym (forgets x).id ∙ e)
       ]
 
-  pub tree_forgotten : Tree (set t p (with_object None (get_or t p no_surface))) (set os k no_object)
+  pub tree_forgotten : Tree (set t p (with_object None (get_or t p no_surface))) (set os k None)
   unfolding forgetting
   tree_forgotten =
       record {
@@ -99,7 +104,7 @@ module _ (t : List Surface) (os : List Object) (k p : ℕ) (a : Tree t os) (alon
           once = λ q. subst Once (sym (forgets q).pending) (a.orders.once q);
         };
         linked = linked_forgotten;
-        inert = λ j x e. (forgets x).parent ∙ a.inert j x (gone_kinds os k j x true e).0;
+        inert = λ j x e. (forgets x).parent ∙ a.inert j x (sym (gone_kinds os k j x (ap surface_of e)).0 ∙ e);
         known = known_forgotten;
         free = free_forgotten;
       }
@@ -112,7 +117,7 @@ record Reordered (s u : Surface) : Type 0 where
   current : u.current.order ≡ s.current.order
 
 -- another pending order, of q itself and its children
-module _ (t : List Surface) (os : List Object) (q : ℕ) (xs : List ℕ) (h : (c : ℕ) → Member c xs → (c ≡ q) ⊎ (parent_in t c ≡ Some q)) (o : Once xs) (a : Tree t os) where
+module _ (t : List Surface) (os : List (Option Object)) (q : ℕ) (xs : List ℕ) (h : (c : ℕ) → Member c xs → (c ≡ q) ⊎ (parent_in t c ≡ Some q)) (o : Once xs) (a : Tree t os) where
   reordering : Surface
   reordering = with_pending_order xs (get_or t q no_surface)
 
@@ -149,15 +154,15 @@ module _ (t : List Surface) (os : List Object) (q : ℕ) (xs : List ℕ) (h : (c
         };
         linked = λ p x e n. a.linked p x (sym (reordered p).parent ∙ e) (sym (reordered p).object ∙ n);
         inert = λ k p e. (reordered p).parent ∙ a.inert k p e;
-        known = λ k p i e. (reordered p).object ∙ a.known k p i e;
+        known = λ k p e. (reordered p).object ∙ a.known k p e;
         free = λ p e. (reordered p).object ∙ a.free p (sym (reordered p).id ∙ e);
       }
 
 -- the record at p is replaced: the old surface had no parent, and the new one has none, knows no object, and has nobody but itself in its orders
-module _ (t : List Surface) (os ps : List Object) (p : ℕ) (new : Surface) (a : Tree t os) (alone : parent_in t p ≡ None)
+module _ (t : List Surface) (os ps : List (Option Object)) (p : ℕ) (new : Surface) (a : Tree t os) (alone : parent_in t p ≡ None)
     (parent : new.parent ≡ None) (object : new.object ≡ None)
     (once : Once new.pending.order) (pending : (c : ℕ) → Member c new.pending.order → c ≡ p) (current : (c : ℕ) → Member c new.current.order → c ≡ p)
-    (kinds : (k x : ℕ) (i : Bool) → kind_in ps k ≡ Subsurface (Some x) i → (kind_in os k ≡ Subsurface (Some x) i) × (object_in t p ≡ Some k → ⊥)) where
+    (kinds : (k x : ℕ) → surface_of (kind_in ps k) ≡ Some x → (kind_in ps k ≡ kind_in os k) × (object_in t p ≡ Some k → ⊥)) where
   parents_kept : (x : ℕ) → parent_in (set t p new) x ≡ parent_in t x
   parents_kept x =
       elim (put_cases no_surface t p new x) [
@@ -205,10 +210,10 @@ module _ (t : List Surface) (os ps : List Object) (p : ℕ) (new : Surface) (a :
         | inr z ↦ a.linked x q was (sym z ∙ n)
       ]
 
-  known_kept : (k x : ℕ) (i : Bool) → kind_in ps k ≡ Subsurface (Some x) i → object_in (set t p new) x ≡ Some k
-  known_kept k x i e =
-      let was = kinds k x i e in
-      let o = a.known k x i was.0 in
+  known_kept : (k x : ℕ) → surface_of (kind_in ps k) ≡ Some x → object_in (set t p new) x ≡ Some k
+  known_kept k x e =
+      let was = kinds k x e in
+      let o = a.known k x (ap surface_of (sym was.0) ∙ e) in
       elim (objects_kept x) [ inl z ↦ absurd (was.1 (subst (λ y. object_in t y ≡ Some k) z.0 o)) | inr z ↦ z ∙ o ]
 
   free_kept : (x : ℕ) → id_in (set t p new) x ≡ 0 → object_in (set t p new) x ≡ None
@@ -229,7 +234,7 @@ module _ (t : List Surface) (os ps : List Object) (p : ℕ) (new : Surface) (a :
           once = once_kept_here;
         };
         linked = linked_kept;
-        inert = λ k x e. parents_kept x ∙ a.inert k x (kinds k x true e).0;
+        inert = λ k x e. parents_kept x ∙ a.inert k x (sym (kinds k x (ap surface_of e)).0 ∙ e);
         known = known_kept;
         free = free_kept;
       }
@@ -247,10 +252,10 @@ abbrev pub with_child : ℕ → ℕ → ℕ → List Surface → List Surface
 with_child k s q t = set t s (child_of k q (get_or t s no_surface))
 
 abbrev pub subsurface_object : ℕ → ℕ → ℕ → Object
-subsurface_object client id s = record { client = client; id = id; kind = Subsurface (Some s) false }
+subsurface_object client id s = record { client = client; id = id; kind = Subsurface s }
 
 -- a surface without object and parent becomes a child of q, by the sub-surface object at k
-module _ (t : List Surface) (os : List Object) (k client id s q : ℕ) (a : Tree t os) (here : s < length t) (there : q < length t) (lives : id_in t s ≢ 0)
+module _ (t : List Surface) (os : List (Option Object)) (k client id s q : ℕ) (a : Tree t os) (here : s < length t) (there : q < length t) (lives : id_in t s ≢ 0)
     (alone : object_in t s ≡ None) (apart : (n : ℕ) → Climb t n q s → ⊥) where
   child : Surface
   child = child_of k q (get_or t s no_surface)
@@ -288,35 +293,32 @@ module _ (t : List Surface) (os : List Object) (k client id s q : ℕ) (a : Tree
         | inr n ↦ inr (ap (λ (v : Surface). v.parent) (other c n) ∙ e)
       ]
 
-  made_kinds : (j x : ℕ) (i : Bool) → kind_in (set os k made) j ≡ Subsurface (Some x) i → (kind_in os j ≡ Subsurface (Some x) i) ⊎ ((x ≡ s) × (j ≡ k) × (i ≡ false))
+  made_kinds : (j x : ℕ) → surface_of (kind_in (set os k (Some made)) j) ≡ Some x
+      → (kind_in (set os k (Some made)) j ≡ kind_in os j) ⊎ ((x ≡ s) × (j ≡ k) × (kind_in (set os k (Some made)) j ≡ Subsurface s))
   unfolding made
-  made_kinds j x i e =
-      elim (put_cases no_object os k made j) [
-        | inl z ↦ (let w = sym (ap (λ (v : Object). v.kind) z.1) ∙ e in inr ((cc), z.0, (cc)))
-        | inr z ↦ inl (sym (ap (λ (v : Object). v.kind) z) ∙ e)
+  made_kinds j x e =
+      elim (put_cases None os k (Some made) j) [
+        | inl z ↦ (let w = ap kind_of z.1 in inr (same_Some x s (sym e ∙ ap surface_of w), z.0, w))
+        | inr z ↦ inl (ap kind_of z)
       ]
 
-  not_known : (j : ℕ) (i : Bool) → kind_in os j ≡ Subsurface (Some s) i → ⊥
-  not_known j i e = some_none j (sym (a.known j s i e) ∙ alone)
+  not_known : (j x : ℕ) → surface_of (kind_in os j) ≡ Some x → x ≡ s → ⊥
+  not_known j x e z = some_none j (sym (a.known j x e) ∙ (ap (object_in t) z ∙ alone))
 
-  known_now : (j x : ℕ) (i : Bool) → kind_in (set os k made) j ≡ Subsurface (Some x) i → object_in t₁ x ≡ Some j
-  known_now j x i e =
-      elim (made_kinds j x i e) [
-        | inl w ↦ elim (cases_eq x s) [
-          | inl z ↦ absurd (not_known j i (subst (λ y. kind_in os j ≡ Subsurface (Some y) i) z w))
-          | inr n ↦ ap (λ (v : Surface). v.object) (other x n) ∙ a.known j x i w
-        ]
+  known_now : (j x : ℕ) → surface_of (kind_in (set os k (Some made)) j) ≡ Some x → object_in t₁ x ≡ Some j
+  known_now j x e =
+      elim (made_kinds j x e) [
+        | inl w ↦ (let was = ap surface_of (sym w) ∙ e in
+            elim (cases_eq x s) [ inl z ↦ absurd (not_known j x was z) | inr n ↦ ap (λ (v : Surface). v.object) (other x n) ∙ a.known j x was ])
         | inr w ↦ subst (λ y. object_in t₁ y ≡ Some j) (sym w.0) (child_object ∙ ap Some (sym w.1))
       ]
 
-  inert_now : (j x : ℕ) → kind_in (set os k made) j ≡ Subsurface (Some x) true → parent_in t₁ x ≡ None
+  inert_now : (j x : ℕ) → kind_in (set os k (Some made)) j ≡ InertSubsurface (Some x) → parent_in t₁ x ≡ None
   inert_now j x e =
-      elim (made_kinds j x true e) [
-        | inl w ↦ elim (cases_eq x s) [
-          | inl z ↦ absurd (not_known j true (subst (λ y. kind_in os j ≡ Subsurface (Some y) true) z w))
-          | inr n ↦ ap (λ (v : Surface). v.parent) (other x n) ∙ a.inert j x w
-        ]
-        | inr w ↦ absurd (true≢false w.2)
+      elim (made_kinds j x (ap surface_of e)) [
+        | inl w ↦ (let was = sym w ∙ e in
+            elim (cases_eq x s) [ inl z ↦ absurd (not_known j x (ap surface_of was) z) | inr n ↦ ap (λ (v : Surface). v.parent) (other x n) ∙ a.inert j x was ])
+        | inr w ↦ absurd (not_inert s (Some x) (sym w.2 ∙ e))
       ]
 
   linked_now : (x y : ℕ) → parent_in t₁ x ≡ Some y → object_in t₁ x ≡ None → ⊥
@@ -333,7 +335,7 @@ module _ (t : List Surface) (os : List Object) (k client id s q : ℕ) (a : Tree
         | inr z ↦ ap (λ (v : Surface). v.object) (other x z) ∙ a.free x (sym (adopts x).id ∙ e)
       ]
 
-  tree_child : Tree t₁ (set os k made)
+  tree_child : Tree t₁ (set os k (Some made))
   unfolding t₁ child
   tree_child =
       record {
@@ -364,6 +366,6 @@ module _ (t : List Surface) (os : List Object) (k client id s q : ℕ) (a : Tree
         | inr z ↦ inr (subst (λ y. parent_in t₁ y ≡ Some q) (sym z) child_parent)
       ]
 
-  pub tree_adopted : let u = with_child k s q t in Tree (set u q (with_pending_order (pending_in u q ++ s ∷ []) (get_or u q no_surface))) (set os k (subsurface_object client id s))
+  pub tree_adopted : let u = with_child k s q t in Tree (set u q (with_pending_order (pending_in u q ++ s ∷ []) (get_or u q no_surface))) (set os k (Some (subsurface_object client id s)))
   unfolding t₁ made
-  tree_adopted = tree_reordered t₁ (set os k made) q (pending_in t₁ q ++ s ∷ []) on_top (once_added (pending_in t₁ q) s (tree_child.orders.once q) not_there) tree_child
+  tree_adopted = tree_reordered t₁ (set os k (Some made)) q (pending_in t₁ q ++ s ∷ []) on_top (once_added (pending_in t₁ q) s (tree_child.orders.once q) not_there) tree_child

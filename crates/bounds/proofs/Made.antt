@@ -40,7 +40,7 @@ created m client id p a e =
     let own : (c : ℕ) → Member c (p ∷ []) → c ≡ p = λ c k. elim k [ inl z ↦ z | inr z ↦ absurd z ] in
     record {
       sound = record {
-        tree = tree_replaced t m.objects m.objects p new a.tree alone refl refl (tt, tt) own own (λ k x i h. (h, λ z. some_none k (sym z ∙ none)));
+        tree = tree_replaced t m.objects m.objects p new a.tree alone refl refl (tt, tt) own own (λ k x h. (refl, λ z. some_none k (sym z ∙ none)));
         spans = a.spans;
         glass = omega (arith, put_sum no_surface mark_one refl t p new, a.glass);
         roots = a.roots;

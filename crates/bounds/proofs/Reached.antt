@@ -1,9 +1,7 @@
 -- From a new core on, every core is sound.
-use Rattle.std.proofs.Common.{◌≡◌, ℕ, zero, suc, Bool, List, [], ◌∷◌, ◌++◌, get_or, replicate, Some, sym, refl, ap, ◌∙◌, subst, arith}
+use Rattle.std.proofs.Common.{◌≡◌, ℕ, zero, suc, List, [], ◌∷◌, ◌++◌, get_or, replicate, sym, refl, ap, ◌∙◌, subst, arith, Option, None}
 use Rattle.rules.specs.declared.object.Object.{Object}
-use Rattle.rules.specs.declared.object.ObjectKind.{ObjectKind}
-use Rattle.rules.specs.declared.object.ObjectKind.TheVariants.{Display, Compositor, Subcompositor, Subsurface}
-use Rattle.rules.specs.State.{Model, Surface, most, no_surface, no_object, globals, empty}
+use Rattle.rules.specs.State.{surface_of, Model, Surface, most, no_surface, globals, empty}
 use Rattle.rules.specs.Call.{Call, rule, after}
 use Rattle.bounds.specs.Member.{Member, Once}
 use Rattle.bounds.specs.Sound.{Sound, Orders, kind_in}
@@ -11,44 +9,31 @@ use Rattle.bounds.specs.Reached.{reached, EventsFit, SpansApart, DeepEnough, Dep
 use Rattle.bounds.proofs.Tables.{sum_ones, replicated}
 use Rattle.bounds.proofs.Forests.{empty_forest, held_back_enough, descends_enough}
 use Rattle.bounds.proofs.Spans.{no_spans}
+use Rattle.bounds.proofs.Links.{kind_of}
+use Rattle.std.proofs.lemmas.Option.{none-some}
 use Rattle.bounds.proofs.Steps.{mark_one, one_most}
 use Rattle.bounds.proofs.Trees.{some_none, orders_same}
 use Rattle.bounds.proofs.Ruled.{rule_sound, rule_events}
 use Rattle.bounds.proofs.Depth.{apply_deep, walk_deep}
 
 -- objects among which there is no sub-surface object
-abbrev NoSubsurface : List Object → Type 0
-NoSubsurface os = (k x : ℕ) (i : Bool) → kind_in os k ≡ Subsurface (Some x) i → ⊥
+abbrev NoSubsurface : List (Option Object) → Type 0
+NoSubsurface os = (k : ℕ) → surface_of (kind_in os k) ≡ None
 
-abbrev OtherKind : ObjectKind → Type 0
-OtherKind kind = (x : ℕ) (i : Bool) → kind ≡ Subsurface (Some x) i → ⊥
+nobody : (n : ℕ) → NoSubsurface (replicate n None)
+nobody n k = ap (λ o. surface_of (kind_of o)) (replicated None n k)
 
-display : OtherKind Display
-display x i e = let z : ◌≡◌ {A = ℕ} 0 1 = cc in omega arith
-
-compositor : OtherKind Compositor
-compositor x i e = let z : ◌≡◌ {A = ℕ} 0 1 = cc in omega arith
-
-subcompositor : OtherKind Subcompositor
-subcompositor x i e = let z : ◌≡◌ {A = ℕ} 0 1 = cc in omega arith
-
-one_more : (o : Object) (os : List Object) → OtherKind o.kind → NoSubsurface os → NoSubsurface (o ∷ os)
-one_more o os h k zero x i e = h x i e
-one_more o os h k (suc j) x i e = k j x i e
-
-nobody : (n : ℕ) → NoSubsurface (replicate n no_object)
-nobody n k x i e = display x i (sym (ap (λ (o : Object). o.kind) (replicated no_object n k)) ∙ e)
-
-both : (os ps : List Object) → NoSubsurface os → NoSubsurface ps → NoSubsurface (os ++ ps)
-both [] ps h k = k
-both (o ∷ os) ps h k = one_more o (os ++ ps) (h 0) (both os ps (λ j. h (suc j)) k)
+both : (os ps : List (Option Object)) → NoSubsurface os → NoSubsurface ps → NoSubsurface (os ++ ps)
+both [] ps h k j = k j
+both (o ∷ os) ps h k zero = h 0
+both (o ∷ os) ps h k (suc j) = both os ps (λ i. h (suc i)) k j
 
 own_globals : (client : ℕ) → NoSubsurface (globals client)
-own_globals client zero x i e = display x i e
-own_globals client (suc zero) x i e = display x i e
-own_globals client (suc (suc zero)) x i e = compositor x i e
-own_globals client (suc (suc (suc zero))) x i e = subcompositor x i e
-own_globals client (suc (suc (suc (suc k)))) x i e = nobody 252 k x i e
+own_globals client zero = refl
+own_globals client (suc zero) = refl
+own_globals client (suc (suc zero)) = refl
+own_globals client (suc (suc (suc zero))) = refl
+own_globals client (suc (suc (suc (suc k)))) = nobody 252 k
 
 all_globals : NoSubsurface (globals 0 ++ globals 1 ++ globals 2 ++ globals 3)
 all_globals =
@@ -75,8 +60,8 @@ empty_sound size =
       tree = record {
         orders = empty_orders;
         linked = λ p q e n. some_none q (sym e ∙ ap (λ (s : Surface). s.parent) (none_at p));
-        inert = λ k p e. absurd (all_globals k p _ e);
-        known = λ k p i e. absurd (all_globals k p i e);
+        inert = λ k p e. absurd (none-some p (sym (all_globals k) ∙ ap surface_of e));
+        known = λ k p e. absurd (none-some p (sym (all_globals k) ∙ e));
         free = λ p e. ap (λ (s : Surface). s.object) (none_at p);
       };
       spans = no_spans (empty size).size most;

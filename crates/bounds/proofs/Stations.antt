@@ -45,7 +45,7 @@ surface_found word None None None None p e = cc
 
 pub surface_named : (m : Model) (client word id p : ℕ) → the_surface m client word id ≡ Ok p → FoundSurface m p
 surface_named m client word id p e =
-    let x = place (λ o. bears client id o.client o.id) m.objects in
+    let x = place_with (λ o. bears client id o.client o.id) m.objects in
     let y = place (λ s. bears client id s.client s.id) m.surfaces in
     let z = place_with (λ b. some_and (bears client id b.client) b.id) m.buffers in
     let w = place (λ k. bears client id k.client k.id) m.callbacks in

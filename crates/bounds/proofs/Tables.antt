@@ -1,9 +1,9 @@
 -- Tables with one place written, or every place changed.
-use Rattle.std.proofs.Common.{◌≡◌, ℕ, zero, suc, ◌+◌, ◌<◌, ◌≤◌, Bool, true, false, cond, not, eqb, ◌≢◌, ◌⊎◌, List, [], ◌∷◌, ◌++◌, length, get_or, set, replicate, Some, sum_by, sym, refl, ap, ◌∙◌, inl, inr, arith}
+use Rattle.std.proofs.Common.{◌≡◌, ℕ, zero, suc, ◌+◌, ◌<◌, ◌≤◌, Bool, true, false, cond, not, eqb, ◌≢◌, ◌⊎◌, List, [], ◌∷◌, ◌++◌, length, get_or, set, replicate, Some, None, sum_by, sym, refl, ap, ◌∙◌, inl, inr, arith, Option}
 use Rattle.std.proofs.lemmas.List.Sums.{sum_by-cons}
 use Rattle.std.proofs.lemmas.Bool.{eqb-false, cond_both, not-true}
 use Rattle.list.specs.Place.{place_from}
-use Rattle.rules.specs.Table.{each_from, without}
+use Rattle.rules.specs.Table.{each_from, without, record_at, changed}
 use Rattle.bounds.specs.Member.{Member}
 
 module _ {A : Type 0} (d : A) where
@@ -22,6 +22,16 @@ module _ {A : Type 0} (d : A) where
   put_cases (x ∷ t) zero a (suc q) = inr refl
   put_cases (x ∷ t) (suc p) a zero = inr refl
   put_cases (x ∷ t) (suc p) a (suc q) = elim (put_cases t p a q) [ inl h ↦ inl (ap suc h.0, h.1) | inr h ↦ inr h ]
+
+  -- a place after its record was changed: what it became, or what was there
+  pub changed_cases : (t : List (Option A)) (p : ℕ) (f : A → A) (q : ℕ)
+      → ((q ≡ p) × (record_at d (changed p f t) q ≡ f (record_at d t q))) ⊎ (record_at d (changed p f t) q ≡ record_at d t q)
+  changed_cases [] p f q = inr refl
+  changed_cases (None ∷ t) zero f zero = inr refl
+  changed_cases (Some x ∷ t) zero f zero = inl (refl, refl)
+  changed_cases (o ∷ t) zero f (suc q) = inr refl
+  changed_cases (o ∷ t) (suc p) f zero = inr refl
+  changed_cases (o ∷ t) (suc p) f (suc q) = elim (changed_cases t p f q) [ inl h ↦ inl (ap suc h.0, h.1) | inr h ↦ inr h ]
 
   -- what is read at a place after a write there, where the place need not be in the table
   pub put_here : (P : A → Type 0) (t : List A) (p : ℕ) (a : A) → P a → P d → P (get_or (set t p a) p d)

@@ -1,9 +1,10 @@
 -- What keeps the tree of surfaces and its links.
-use Rattle.std.proofs.Common.{◌≡◌, ℕ, Bool, true, ◌≢◌, ◌⊎◌, List, length, get_or, Some, None, Option, sym, ◌∙◌, subst, inl, inr, arith}
+use Rattle.std.proofs.Common.{◌≡◌, ℕ, ◌≢◌, ◌⊎◌, List, length, get_or, Some, None, Option, sym, ◌∙◌, subst, inl, inr, arith, ap}
 use Rattle.std.proofs.lemmas.Bool.{cases_eq}
+use Rattle.std.proofs.lemmas.Option.{same_Some}
 use Rattle.rules.specs.declared.object.Object.{Object}
-use Rattle.rules.specs.declared.object.ObjectKind.TheVariants.{Subsurface}
-use Rattle.rules.specs.State.{Model, Surface, no_surface}
+use Rattle.rules.specs.declared.object.ObjectKind.TheVariants.{InertSubsurface}
+use Rattle.rules.specs.State.{surface_of, Model, Surface, no_surface}
 use Rattle.bounds.specs.Forest.{parent_in}
 use Rattle.bounds.specs.Member.{Member, Once}
 use Rattle.bounds.specs.Reached.{SameOrders}
@@ -44,18 +45,18 @@ orders_same m n h a = orders_stay m.surfaces n.surfaces h.places h.parents h.pen
 pub orders_alike : (t u : List Surface) → length u ≡ length t → ((q : ℕ) → LinkedAlike (get_or t q no_surface) (get_or u q no_surface)) → Orders t → Orders u
 orders_alike t u e h a = orders_stay t u e (λ q. (h q).parent) (λ q. (h q).pending) (λ q. (h q).current) a
 
-pub tree_alike : (t u : List Surface) (os : List Object) → length u ≡ length t → ((q : ℕ) → LinkedAlike (get_or t q no_surface) (get_or u q no_surface)) → Tree t os → Tree u os
+pub tree_alike : (t u : List Surface) (os : List (Option Object)) → length u ≡ length t → ((q : ℕ) → LinkedAlike (get_or t q no_surface) (get_or u q no_surface)) → Tree t os → Tree u os
 tree_alike t u os e h a =
     record {
       orders = orders_alike t u e h a.orders;
       linked = λ p q k n. a.linked p q (sym (h p).parent ∙ k) (sym (h p).object ∙ n);
       inert = λ k p z. (h p).parent ∙ a.inert k p z;
-      known = λ k p i z. (h p).object ∙ a.known k p i z;
+      known = λ k p z. (h p).object ∙ a.known k p z;
       free = λ p z. (h p).object ∙ a.free p (sym (h p).id ∙ z);
     }
 
 -- the surface p has lost its parent: it left the parent's orders, and its sub-surface object is inert
-pub record Cut (p : ℕ) (t u : List Surface) (os ps : List Object) : Type 0 where
+pub record Cut (p : ℕ) (t u : List Surface) (os ps : List (Option Object)) : Type 0 where
   pub places : length u ≡ length t
   pub id : (x : ℕ) → id_in u x ≡ id_in t x
   pub object : (x : ℕ) → object_in u x ≡ object_in t x
@@ -64,9 +65,9 @@ pub record Cut (p : ℕ) (t u : List Surface) (os ps : List Object) : Type 0 whe
   pub pending : (x c : ℕ) → Member c (pending_in u x) → Member c (pending_in t x) × (parent_in t p ≡ Some x → c ≢ p)
   pub current : (x c : ℕ) → Member c (current_in u x) → Member c (current_in t x) × (parent_in t p ≡ Some x → c ≢ p)
   pub once : (x : ℕ) → Once (pending_in t x) → Once (pending_in u x)
-  pub kinds : (k : ℕ) → (kind_in ps k ≡ kind_in os k) ⊎ ((kind_in ps k ≡ Subsurface (Some p) true) × (object_in t p ≡ Some k))
+  pub kinds : (k : ℕ) → (kind_in ps k ≡ kind_in os k) ⊎ ((kind_in ps k ≡ InertSubsurface (Some p)) × (object_in t p ≡ Some k))
 
-module _ (p : ℕ) (t u : List Surface) (os ps : List Object) (h : Cut p t u os ps) (a : Tree t os) where
+module _ (p : ℕ) (t u : List Surface) (os ps : List (Option Object)) (h : Cut p t u os ps) (a : Tree t os) where
   -- parents stay, but for p
   parents_cut : (x : ℕ) → (parent_in u x ≡ parent_in t x) ⊎ (parent_in u x ≡ None)
   parents_cut x = elim (cases_eq x p) [ inl e ↦ inr (subst (λ y. parent_in u y ≡ None) (sym e) h.gone) | inr n ↦ inl (h.parent x n) ]
@@ -79,18 +80,18 @@ module _ (p : ℕ) (t u : List Surface) (os ps : List Object) (h : Cut p t u os 
   child_cut q c n (inr e) =
       elim (cases_eq c p) [ inl k ↦ absurd (n (subst (λ y. parent_in t y ≡ Some q) k e) k) | inr k ↦ inr (h.parent c k ∙ e) ]
 
-  known_cut : (k x : ℕ) (i : Bool) → kind_in ps k ≡ Subsurface (Some x) i → object_in t x ≡ Some k
-  known_cut k x i e =
+  known_cut : (k x : ℕ) → surface_of (kind_in ps k) ≡ Some x → object_in t x ≡ Some k
+  known_cut k x e =
       elim (h.kinds k) [
-        | inl z ↦ a.known k x i (sym z ∙ e)
-        | inr z ↦ (let y : x ≡ p = let w = z.0 in cc in subst (λ v. object_in t v ≡ Some k) (sym y) z.1)
+        | inl z ↦ a.known k x (ap surface_of (sym z) ∙ e)
+        | inr z ↦ subst (λ v. object_in t v ≡ Some k) (same_Some p x (ap surface_of (sym z.0) ∙ e)) z.1
       ]
 
-  inert_cut : (k x : ℕ) → kind_in ps k ≡ Subsurface (Some x) true → parent_in u x ≡ None
+  inert_cut : (k x : ℕ) → kind_in ps k ≡ InertSubsurface (Some x) → parent_in u x ≡ None
   inert_cut k x e =
       elim (h.kinds k) [
         | inl z ↦ elim (parents_cut x) [ inl y ↦ y ∙ a.inert k x (sym z ∙ e) | inr y ↦ y ]
-        | inr z ↦ (let y : x ≡ p = let w = z.0 in cc in subst (λ v. parent_in u v ≡ None) (sym y) h.gone)
+        | inr z ↦ subst (λ v. parent_in u v ≡ None) (same_Some p x (ap surface_of (sym z.0 ∙ e))) h.gone
       ]
 
   pub tree_cut : Tree u ps
@@ -105,6 +106,6 @@ module _ (p : ℕ) (t u : List Surface) (os ps : List Object) (h : Cut p t u os 
         };
         linked = λ x q e n. a.linked x q (parent_before x q e) (sym (h.object x) ∙ n);
         inert = inert_cut;
-        known = λ k x i e. h.object x ∙ known_cut k x i e;
+        known = λ k x e. h.object x ∙ known_cut k x e;
         free = λ x e. h.object x ∙ a.free x (sym (h.id x) ∙ e);
       }

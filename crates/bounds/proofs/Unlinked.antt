@@ -1,22 +1,22 @@
 -- Unlink: what it does to the tree, and how many events it sends.
-use Rattle.std.proofs.Common.{◌≡◌, ℕ, ◌+◌, ◌≤◌, Bool, true, not, eqb, ◌≢◌, ◌⊎◌, List, [], ◌∷◌, length, get_or, set, Some, None, fold, sum_by, filter, Option, sym, refl, ap, ◌∙◌, subst, inl, inr, arith, length-set, get_or-set_other}
+use Rattle.std.proofs.Common.{◌≡◌, ℕ, ◌+◌, ◌≤◌, Bool, not, eqb, ◌≢◌, ◌⊎◌, List, [], ◌∷◌, length, get_or, set, Some, None, fold, sum_by, filter, Option, sym, refl, ap, ◌∙◌, subst, inl, inr, arith, length-set, get_or-set_other}
 use Rattle.std.proofs.lemmas.List.Sums.{length-filter, count_by-le-length}
 use Rattle.rules.specs.declared.attach.Attach.TheVariants.{Nothing}
 use Rattle.rules.specs.declared.callback.Callback.{Callback}
 use Rattle.rules.specs.declared.object.Object.{Object}
-use Rattle.rules.specs.declared.object.ObjectKind.TheVariants.{Subsurface}
+use Rattle.rules.specs.declared.object.ObjectKind.TheVariants.{InertSubsurface}
 use Rattle.rules.specs.declared.stage.Stage.TheVariants.{Cached}
 use Rattle.rules.specs.State.{Model, Surface, no_surface, no_object}
 use Rattle.rules.specs.Setters.{with_parent, with_cached, with_order, with_pending_order}
 use Rattle.rules.specs.Run.{plain, at, edit, in_model}
 use Rattle.rules.specs.Hold.{end_cached}
 use Rattle.rules.specs.Callback.{end_callbacks, stands}
-use Rattle.rules.specs.Table.{without}
-use Rattle.rules.specs.Unlink.{made_inert, leave, unlink_from, unlink, unlink_children}
+use Rattle.rules.specs.Table.{changed, without}
+use Rattle.rules.specs.Unlink.{as_inert, made_inert, leave, unlink_from, unlink, unlink_children}
 use Rattle.bounds.specs.Forest.{parent_in}
 use Rattle.bounds.specs.Member.{Member, Once}
 use Rattle.bounds.specs.Sound.{Tree, pending_in, current_in, object_in, kind_in, one, on_glass}
-use Rattle.bounds.proofs.Tables.{put_related, put_here, put_cases, put_sum, without_member}
+use Rattle.bounds.proofs.Tables.{put_related, put_here, changed_cases, put_sum, without_member}
 use Rattle.bounds.proofs.Pigeons.{once_kept}
 use Rattle.bounds.proofs.Steps.{Plain, mark_one, cached_most, end_cached_model, end_cached_events, end_callbacks_model, end_callbacks_events}
 use Rattle.bounds.proofs.Trees.{some_same, tree_cut}
@@ -78,20 +78,20 @@ module _ (q p : ℕ) (t : List Surface) where
       length-set (left q p t) p (parting (get_or (left q p t) p no_surface)) ∙ length-set t q (leaving p (get_or t q no_surface))
 
 -- the object that becomes inert
-abbrev inert_objects : Option ℕ → ℕ → List Object → List Object
+abbrev inert_objects : Option ℕ → ℕ → List (Option Object) → List (Option Object)
 inert_objects None p os = os
-inert_objects (Some k) p os = set os k (record { client = (get_or os k no_object).client; id = (get_or os k no_object).id; kind = Subsurface (Some p) true })
+inert_objects (Some k) p os = changed k (as_inert (Some p)) os
 
-inert_kinds : (o : Option ℕ) (p : ℕ) (os : List Object) (k : ℕ)
-    → (kind_in (inert_objects o p os) k ≡ kind_in os k) ⊎ ((kind_in (inert_objects o p os) k ≡ Subsurface (Some p) true) × (o ≡ Some k))
+inert_kinds : (o : Option ℕ) (p : ℕ) (os : List (Option Object)) (k : ℕ)
+    → (kind_in (inert_objects o p os) k ≡ kind_in os k) ⊎ ((kind_in (inert_objects o p os) k ≡ InertSubsurface (Some p)) × (o ≡ Some k))
 inert_kinds None p os k = inl refl
 inert_kinds (Some j) p os k =
-    elim (put_cases no_object os j (record { client = (get_or os j no_object).client; id = (get_or os j no_object).id; kind = Subsurface (Some p) true }) k) [
+    elim (changed_cases no_object os j (as_inert (Some p)) k) [
       | inl h ↦ inr (ap (λ (v : Object). v.kind) h.1, ap Some (sym h.0))
       | inr h ↦ inl (ap (λ (v : Object). v.kind) h)
     ]
 
-unlinked_tree : (q p : ℕ) (t : List Surface) (os : List Object) → parent_in t p ≡ Some q → Tree t os → Tree (parted q p t) (inert_objects (object_in t p) p os)
+unlinked_tree : (q p : ℕ) (t : List Surface) (os : List (Option Object)) → parent_in t p ≡ Some q → Tree t os → Tree (parted q p t) (inert_objects (object_in t p) p os)
 unlinked_tree q p t os e a =
     tree_cut p t (parted q p t) os (inert_objects (object_in t p) p os)
     (record {
@@ -242,7 +242,7 @@ parting_tree q p (Some j) r e k a =
 
 -- a run with the same surfaces and objects
 pub tree_same : (m n : Model) → n.surfaces ≡ m.surfaces → n.objects ≡ m.objects → Tree m.surfaces m.objects → Tree n.surfaces n.objects
-tree_same m n e k a = subst (λ (os : List Object). Tree n.surfaces os) (sym k) (subst (λ (t : List Surface). Tree t m.objects) (sym e) a)
+tree_same m n e k a = subst (λ (os : List (Option Object)). Tree n.surfaces os) (sym k) (subst (λ (t : List Surface). Tree t m.objects) (sym e) a)
 
 unlink_from_tree : (o : Option ℕ) (p : ℕ) (r : Plain) → (at r p).parent ≡ o → TreeOf r → TreeOf (unlink_from plain o p r)
 unlink_from_tree None p r e a = a

@@ -1,11 +1,12 @@
 -- What holds of a core after any calls.
-use Rattle.std.specs.Prelude.{◌≡◌, ℕ, ◌+◌, ◌<◌, ◌≤◌, Bool, true, ◌≢◌, ◌⊎◌, List, length, Some, None, sum_by, Option, slice_index_or}
+use Rattle.std.specs.Prelude.{◌≡◌, ℕ, ◌+◌, ◌<◌, ◌≤◌, ◌≢◌, ◌⊎◌, List, length, Some, None, sum_by, Option, slice_index_or}
 use Rattle.std.specs.List.{AllByRecursion}
 use Rattle.rules.specs.declared.buffer.Buffer.{Buffer}
 use Rattle.rules.specs.declared.object.Object.{Object}
 use Rattle.rules.specs.declared.object.ObjectKind.{ObjectKind}
-use Rattle.rules.specs.declared.object.ObjectKind.TheVariants.{Subsurface}
-use Rattle.rules.specs.State.{Model, Surface, Waiting, most, no_surface, no_object, buffer_span}
+use Rattle.rules.specs.declared.object.ObjectKind.TheVariants.{InertSubsurface}
+use Rattle.rules.specs.State.{Model, Surface, Waiting, most, no_surface, no_object, buffer_span, surface_of}
+use Rattle.rules.specs.Table.{record_at}
 use Rattle.bounds.specs.Forest.{Forest, parent_in}
 use Rattle.bounds.specs.Member.{Member, Once}
 
@@ -18,8 +19,8 @@ current_in t p = (slice_index_or t p no_surface).current.order
 abbrev pub object_in : List Surface → ℕ → Option ℕ
 object_in t p = (slice_index_or t p no_surface).object
 
-abbrev pub kind_in : List Object → ℕ → ObjectKind
-kind_in os k = (slice_index_or os k no_object).kind
+abbrev pub kind_in : List (Option Object) → ℕ → ObjectKind
+kind_in os k = (record_at no_object os k).kind
 
 -- the parents are a forest; an order of q has q itself and children of q, and a pending order none of them twice
 pub record Orders (t : List Surface) : Type 0 where
@@ -30,14 +31,14 @@ pub record Orders (t : List Surface) : Type 0 where
   pub once : (q : ℕ) → Once (pending_in t q)
 
 -- the surfaces, and the sub-surface objects that link them
-pub record Tree (t : List Surface) (os : List Object) : Type 0 where
+pub record Tree (t : List Surface) (os : List (Option Object)) : Type 0 where
   pub orders : Orders t
   -- a child has a sub-surface object
   pub linked : (p q : ℕ) → parent_in t p ≡ Some q → object_in t p ≢ None
   -- the surface of an inert sub-surface object has no parent
-  pub inert : (k p : ℕ) → kind_in os k ≡ Subsurface (Some p) true → parent_in t p ≡ None
-  -- the surface of a sub-surface object knows it
-  pub known : (k p : ℕ) (inert : Bool) → kind_in os k ≡ Subsurface (Some p) inert → object_in t p ≡ Some k
+  pub inert : (k p : ℕ) → kind_in os k ≡ InertSubsurface (Some p) → parent_in t p ≡ None
+  -- the surface of a sub-surface object, inert or not, knows it
+  pub known : (k p : ℕ) → surface_of (kind_in os k) ≡ Some p → object_in t p ≡ Some k
   pub free : (p : ℕ) → (slice_index_or t p no_surface).id ≡ 0 → object_in t p ≡ None
 
 -- the spans of buffer records lie inside the pixel memory, and none meets another

@@ -1,5 +1,5 @@
 -- What a message asks for, with its objects found.
-use Rattle.std.specs.Prelude.{ℕ, Bool, true, false, cond, List, ℤ, Some, None, Ok, Option, Result, nat_lt}
+use Rattle.std.specs.Prelude.{ℕ, Bool, true, false, List, ℤ, Some, None, Ok, Option, Result, nat_lt}
 use Rattle.model.specs.declared.fault.Fault.{Fault}
 use Rattle.model.specs.declared.request.Request.{Request}
 use Rattle.model.specs.declared.request.Request.TheVariants.{CreateSurface, GetSubsurface, SurfaceDestroy, Attach as AttachBuffer, Damage, Frame, Commit, SubsurfaceDestroy, SetPosition, PlaceAbove, PlaceBelow, SetSync, SetDesync, BufferDestroy}
@@ -10,7 +10,7 @@ use Rattle.model.specs.Word.{words}
 use Rattle.rules.specs.declared.attach.Attach.{Attach}
 use Rattle.rules.specs.declared.attach.Attach.TheVariants.{Null, Buffer as Held}
 use Rattle.rules.specs.declared.object.ObjectKind.{ObjectKind}
-use Rattle.rules.specs.declared.object.ObjectKind.TheVariants.{Display, Compositor, Subcompositor, Subsurface}
+use Rattle.rules.specs.declared.object.ObjectKind.TheVariants.{Subsurface}
 use Rattle.rules.specs.State.{Model, object_at}
 use Rattle.rules.specs.Station.{◌>>=◌, refuse_if, or_refuse}
 use Rattle.rules.specs.Name.{named, interface_of, place_of, new_id, the_surface, the_buffer}
@@ -32,10 +32,8 @@ pub data Found : Type 0 where
   destroy_buffer : (buffer : ℕ) → Found
 
 abbrev pub linked_by : ObjectKind → Option ℕ
-linked_by Display = None
-linked_by Compositor = None
-linked_by Subcompositor = None
-linked_by (Subsurface surface inert) = cond inert None surface
+linked_by (Subsurface surface) = Some surface
+linked_by _ = None
 
 -- the surface of the sub-surface object at k, unless that is inert
 abbrev pub linked : Model → ℕ → Option ℕ

@@ -6,13 +6,12 @@ use Rattle.model.specs.Fault.{fault}
 use Rattle.rules.specs.declared.attach.Attach.{Attach}
 use Rattle.rules.specs.declared.attach.Attach.TheVariants.{Nothing, Null, Buffer as Held}
 use Rattle.rules.specs.declared.buffer.Buffer.{Buffer}
-use Rattle.rules.specs.declared.object.ObjectKind.{ObjectKind}
-use Rattle.rules.specs.declared.object.ObjectKind.TheVariants.{Display, Compositor, Subcompositor, Subsurface}
+use Rattle.rules.specs.declared.object.ObjectKind.TheVariants.{Subsurface}
 use Rattle.rules.specs.declared.role.Role.{Role}
 use Rattle.rules.specs.declared.role.Role.TheVariants.{Plain, Root, Sub}
 use Rattle.rules.specs.declared.stage.Stage.TheVariants.{Pending}
-use Rattle.rules.specs.State.{Model, Surface, no_object, surface_at, buffer_at, object_at, object_place}
-use Rattle.rules.specs.Setters.{with_role, with_parent, with_object, with_sync, with_attach, with_pending_position, with_pending_order, with_surfaces, with_callbacks, edit_buffer, put_object}
+use Rattle.rules.specs.State.{surface_of, Model, Surface, surface_at, buffer_at, object_at, object_place}
+use Rattle.rules.specs.Setters.{with_role, with_parent, with_object, with_sync, with_attach, with_pending_position, with_pending_order, with_surfaces, with_callbacks, edit_buffer, put_object, free_object}
 use Rattle.rules.specs.Run.{Grow, Run, in_model, at, edit, send, send_living, delete_id}
 use Rattle.rules.specs.Apply.{commit, desync}
 use Rattle.rules.specs.Unlink.{unlink, destroy}
@@ -91,19 +90,12 @@ abbrev pub nameless : Buffer → Buffer
 nameless f =
     record { client = f.client; id = None; first = f.first; width = f.width; height = f.height; stride = f.stride; format = f.format }
 
--- the surface that a sub-surface object, inert or not, still belongs to
-abbrev pub surface_of : ObjectKind → Option ℕ
-surface_of Display = None
-surface_of Compositor = None
-surface_of Subcompositor = None
-surface_of (Subsurface surface inert) = surface
-
 module _ {E : Type 0} (g : Grow E) where
   -- the surface s becomes a child of q, by the sub-surface object id
   abbrev pub adopt : ℕ → ℕ → ℕ → ℕ → Run E → Run E
   adopt client id s q r =
       let k = object_place client id in
-      let known = in_model (put_object k (record { client = client; id = id; kind = Subsurface (Some s) false })) r in
+      let known = in_model (put_object k (record { client = client; id = id; kind = Subsurface s })) r in
       let child = edit s (λ u. with_pending_position (pos 0) (pos 0) (with_sync true (with_object (Some k) (with_parent (Some q) (with_role Sub u))))) known in
       edit q (λ u. with_pending_order (g.ordered u.pending.order s) u) child
 
@@ -132,7 +124,7 @@ module _ {E : Type 0} (g : Grow E) where
   end_subsurface k p r =
       let o = object_at r.model k in
       send g (delete_id o.client o.id)
-      (in_model (put_object k no_object) (forget_object (surface_of o.kind) (unlink_linked p r)))
+      (in_model (free_object k) (forget_object (surface_of o.kind) (unlink_linked p r)))
 
   abbrev pub end_buffer : ℕ → Run E → Run E
   end_buffer b r =

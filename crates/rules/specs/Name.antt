@@ -6,7 +6,7 @@ use Rattle.model.specs.declared.interface.Interface.{Interface}
 use Rattle.model.specs.declared.interface.Interface.TheVariants as interface
 use Rattle.model.specs.Fault.{fault}
 use Rattle.rules.specs.declared.object.ObjectKind.{ObjectKind}
-use Rattle.rules.specs.declared.object.ObjectKind.TheVariants.{Display, Compositor, Subcompositor, Subsurface}
+use Rattle.rules.specs.declared.object.ObjectKind.TheVariants.{Display, Compositor, Subcompositor, Subsurface, InertSubsurface}
 use Rattle.rules.specs.State.{Model, object_at}
 use Rattle.rules.specs.Table.{some_and, place_with}
 use Rattle.rules.specs.Station.{refuse_if}
@@ -33,7 +33,7 @@ named_as kind (Some p) = Some (kind p)
 
 abbrev pub named : Model → ℕ → ℕ → Option Named
 named m client id =
-    or_else (named_as object (place (λ o. bears client id o.client o.id) m.objects))
+    or_else (named_as object (place_with (λ o. bears client id o.client o.id) m.objects))
     (or_else (named_as surface (place (λ s. bears client id s.client s.id) m.surfaces))
     (or_else (named_as buffer (place_with (λ b. some_and (bears client id b.client) b.id) m.buffers))
     (named_as callback (place (λ k. bears client id k.client k.id) m.callbacks))))
@@ -42,7 +42,8 @@ abbrev pub kind_interface : ObjectKind → Interface
 kind_interface Display = interface.Display
 kind_interface Compositor = interface.Compositor
 kind_interface Subcompositor = interface.Subcompositor
-kind_interface (Subsurface s inert) = interface.Subsurface
+kind_interface (Subsurface s) = interface.Subsurface
+kind_interface (InertSubsurface s) = interface.Subsurface
 
 abbrev pub interface_of : Model → Named → Interface
 interface_of m (object k) = kind_interface (object_at m k).kind

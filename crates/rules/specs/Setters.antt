@@ -1,5 +1,5 @@
 -- States with one field changed.
-use Rattle.std.specs.Prelude.{ℕ, Bool, List, ℤ, Some, Option, slice_set}
+use Rattle.std.specs.Prelude.{ℕ, Bool, List, ℤ, Some, None, Option, slice_set}
 use Rattle.rules.specs.declared.attach.Attach.{Attach}
 use Rattle.rules.specs.declared.buffer.Buffer.{Buffer}
 use Rattle.rules.specs.declared.callback.Callback.{Callback}
@@ -75,7 +75,7 @@ abbrev pub with_callbacks : List Callback → Model → Model
 with_callbacks v m =
     record { surfaces = m.surfaces; buffers = m.buffers; callbacks = v; objects = m.objects; roots = m.roots; waiting = m.waiting; on = m.on; size = m.size }
 
-abbrev pub with_objects : List Object → Model → Model
+abbrev pub with_objects : List (Option Object) → Model → Model
 with_objects v m =
     record { surfaces = m.surfaces; buffers = m.buffers; callbacks = m.callbacks; objects = v; roots = m.roots; waiting = m.waiting; on = m.on; size = m.size }
 
@@ -99,7 +99,15 @@ abbrev pub put_buffer : ℕ → Buffer → Model → Model
 put_buffer b f m = with_buffers (slice_set m.buffers b (Some f)) m
 
 abbrev pub put_object : ℕ → Object → Model → Model
-put_object k o m = with_objects (slice_set m.objects k o) m
+put_object k o m = with_objects (slice_set m.objects k (Some o)) m
+
+-- one record taken from its place
+abbrev pub free_object : ℕ → Model → Model
+free_object k m = with_objects (slice_set m.objects k None) m
+
+-- one record changed at its place
+abbrev pub edit_object : ℕ → (Object → Object) → Model → Model
+edit_object k f m = with_objects (changed k f m.objects) m
 
 abbrev pub edit_buffer : ℕ → (Buffer → Buffer) → Model → Model
 edit_buffer b f m = with_buffers (changed b f m.buffers) m

@@ -1,11 +1,12 @@
 -- What a core knows.
-use Rattle.std.specs.Prelude.{ℕ, ◌+◌, ◌*◌, min, Bool, false, List, [], ◌∷◌, ◌++◌, replicate, ℤ, pos, None, Option, slice_index_or}
+use Rattle.std.specs.Prelude.{ℕ, ◌+◌, ◌*◌, min, Bool, false, List, [], ◌∷◌, ◌++◌, replicate, ℤ, pos, Some, None, Option, slice_index_or}
 use Rattle.rules.specs.declared.attach.Attach.{Attach}
 use Rattle.rules.specs.declared.attach.Attach.TheVariants.{Nothing}
 use Rattle.rules.specs.declared.buffer.Buffer.{Buffer}
 use Rattle.rules.specs.declared.callback.Callback.{Callback}
 use Rattle.rules.specs.declared.object.Object.{Object}
-use Rattle.rules.specs.declared.object.ObjectKind.TheVariants.{Display, Compositor, Subcompositor}
+use Rattle.rules.specs.declared.object.ObjectKind.{ObjectKind}
+use Rattle.rules.specs.declared.object.ObjectKind.TheVariants.{Display, Compositor, Subcompositor, Subsurface, InertSubsurface}
 use Rattle.rules.specs.declared.role.Role.{Role}
 use Rattle.rules.specs.declared.role.Role.TheVariants.{Plain}
 use Rattle.rules.specs.Table.{record_at}
@@ -47,7 +48,7 @@ pub record Model : Type 0 where
   pub buffers : List (Option Buffer)
   -- in the order in which they were asked for
   pub callbacks : List Callback
-  pub objects : List Object
+  pub objects : List (Option Object)
   -- places of surfaces, bottom first
   pub roots : List ℕ
   -- in the order in which they began to wait
@@ -86,13 +87,13 @@ abbrev pub object_place : ℕ → ℕ → ℕ
 object_place client id = client * 256 + id
 
 -- the globals of a client, in the table of objects
-abbrev pub globals : ℕ → List Object
+abbrev pub globals : ℕ → List (Option Object)
 globals client =
-    no_object
-    ∷ record { client = client; id = 1; kind = Display }
-    ∷ record { client = client; id = 2; kind = Compositor }
-    ∷ record { client = client; id = 3; kind = Subcompositor }
-    ∷ replicate 252 no_object
+    None
+    ∷ Some (record { client = client; id = 1; kind = Display })
+    ∷ Some (record { client = client; id = 2; kind = Compositor })
+    ∷ Some (record { client = client; id = 3; kind = Subcompositor })
+    ∷ replicate 252 None
 
 -- a new core with a pixel memory of so many pixels
 abbrev pub empty : ℕ → Model
@@ -120,4 +121,10 @@ abbrev pub buffer_span : Buffer → ℕ
 buffer_span b = b.stride * b.height
 
 abbrev pub object_at : Model → ℕ → Object
-object_at m k = slice_index_or m.objects k no_object
+object_at m k = record_at no_object m.objects k
+
+-- the surface that a sub-surface object, inert or not, still belongs to
+abbrev pub surface_of : ObjectKind → Option ℕ
+surface_of (Subsurface surface) = Some surface
+surface_of (InertSubsurface surface) = surface
+surface_of _ = None

@@ -1,20 +1,24 @@
 -- Unlink, and the end of a surface.
-use Rattle.std.specs.Prelude.{ℕ, true, Some, None, fold, Option, nat_eq}
+use Rattle.std.specs.Prelude.{ℕ, Some, None, fold, Option, nat_eq}
 use Rattle.rules.specs.declared.attach.Attach.TheVariants.{Nothing}
-use Rattle.rules.specs.declared.object.ObjectKind.TheVariants.{Subsurface}
+use Rattle.rules.specs.declared.object.Object.{Object}
+use Rattle.rules.specs.declared.object.ObjectKind.TheVariants.{InertSubsurface}
 use Rattle.rules.specs.declared.stage.Stage.TheVariants.{Cached}
-use Rattle.rules.specs.State.{Model, no_surface, object_at}
-use Rattle.rules.specs.Setters.{with_parent, with_cached, with_order, with_pending_order, with_roots, put_surface, put_object}
+use Rattle.rules.specs.State.{Model, no_surface}
+use Rattle.rules.specs.Setters.{with_parent, with_cached, with_order, with_pending_order, with_roots, put_surface, edit_object}
 use Rattle.rules.specs.Run.{Grow, Run, in_model, at, edit, send, delete_id}
 use Rattle.rules.specs.Hold.{end_cached, end_current}
 use Rattle.rules.specs.Callback.{end_callbacks, stands}
 use Rattle.rules.specs.Table.{without}
 
+-- a sub-surface object as an inert one of that surface
+abbrev pub as_inert : Option ℕ → Object → Object
+as_inert surface o = record { client = o.client; id = o.id; kind = InertSubsurface surface }
+
 -- the sub-surface object at k, if there is one, is inert, and knows the surface that it still blocks
 abbrev pub made_inert : Option ℕ → Option ℕ → Model → Model
 made_inert None surface m = m
-made_inert (Some k) surface m =
-    put_object k (record { client = (object_at m k).client; id = (object_at m k).id; kind = Subsurface surface true }) m
+made_inert (Some k) surface m = edit_object k (as_inert surface) m
 
 module _ {E : Type 0} (g : Grow E) where
   -- p leaves both orders of q

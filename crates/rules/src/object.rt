@@ -5,11 +5,12 @@ pub enum ObjectKind {
     Display,
     Compositor,
     Subcompositor,
-    // The place of its surface, while that lives; an inert one has been unlinked.
-    Subsurface { surface: Option<u8>, inert: bool },
+    // The place of its surface.
+    Subsurface { surface: u8 },
+    // Its surface has been unlinked; the place of that, while it lives.
+    InertSubsurface { surface: Option<u8> },
 }
 
-// A free place has id 0.
 #[derive(Clone, Copy, PartialEq, Eq, Debug)]
 pub struct Object {
     pub client: u32,
