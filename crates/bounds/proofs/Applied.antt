@@ -1,5 +1,5 @@
 -- Commit, apply and set_desync leave the tree as it is.
-use Rattle.std.proofs.Common.{◌≡◌, ℕ, zero, suc, ◌+◌, ◌≤◌, Bool, true, false, cond, ◌||◌, eqb, List, [], ◌∷◌, length, Some, None, Option, refl, ap, inl, inr, arith, length-set}
+use Rattle.std.proofs.Common.{◌≡◌, ℕ, zero, suc, ◌+◌, ◌≤◌, Bool, true, false, cond, ◌||◌, eqb, List, [], ◌∷◌, length, Some, None, Option, refl, ap, inl, inr, arith, length-set, option_map, get_or}
 use Rattle.std.specs.List.{push}
 use Rattle.std.proofs.lemmas.List.{length_push}
 use Rattle.std.proofs.lemmas.Bool.{cond_both}
@@ -15,7 +15,7 @@ use Rattle.rules.specs.Callback.{advance}
 use Rattle.rules.specs.Tree.{held_back}
 use Rattle.rules.specs.Apply.{replace, take_cached, restack, apply_self, settle, apply_place, apply_children, apply_in, apply_free, cache, take_pending, commit, desync}
 use Rattle.bounds.specs.Sound.{one}
-use Rattle.bounds.proofs.Tables.{put_related, put_sum}
+use Rattle.bounds.proofs.Tables.{changed_related, changed_sum}
 use Rattle.bounds.proofs.Steps.{Plain, LinkedAlike, alike_same, cached_one, cached_most, mark_one, cache_one, sent_living, Keeps, keeps_same, keeps_then, edit_keeps, sent_keeps, advance_keeps}
 
 -- what a surface is once its cached attach has become current
@@ -30,17 +30,16 @@ replaced : (p : ℕ) (r : Plain) (ws : List Waiting) (es : List Event) → lengt
     → cache_one (at r p) ≡ 1 → Keeps 0 r (edit p replacing (with_spent ws es r))
 replaced p r ws es v w c =
     let t = r.model.surfaces in
-    let new = replacing (at r p) in
     record {
-      places = length-set t p new;
-      surfaces = put_related no_surface LinkedAlike alike_same t p new (record { id = refl; parent = refl; object = refl; pending = refl; current = inl refl });
+      places = length-set t p (option_map replacing (get_or t p None));
+      surfaces = changed_related no_surface LinkedAlike alike_same t p replacing (record { parent = refl; object = refl; pending = refl; current = inl refl });
       buffers = refl;
       objects = refl;
       size = refl;
       roots = refl;
       callbacks = refl;
-      glass = omega (arith, put_sum no_surface mark_one refl t p new, w);
-      spends = omega (arith, put_sum no_surface cache_one refl t p new, v, c);
+      glass = omega (arith, changed_sum no_surface mark_one refl t p replacing, w);
+      spends = omega (arith, changed_sum no_surface cache_one refl t p replacing, v, c);
     }
 
 end_keeps : (p : ℕ) (r : Plain) (h o : Option ℕ) → (at r p).current.mark ≡ o → cache_one (at r p) ≡ 1 → Keeps 0 r (edit p replacing (end_current plain h o r))
@@ -64,7 +63,7 @@ take_cached_keeps (Held b) p r e = replace_keeps p r (ap cached_one e)
 
 restack_keeps : (p : ℕ) (r : Plain) → Keeps 0 r (restack plain p r)
 restack_keeps p r =
-    edit_keeps 0 p (λ s. with_order s.pending.order s) r (record { id = refl; parent = refl; object = refl; pending = refl; current = inr refl }) (omega arith) (omega arith)
+    edit_keeps 0 p (λ s. with_order s.pending.order s) r (record { parent = refl; object = refl; pending = refl; current = inr refl }) (omega arith) (omega arith)
 
 pub apply_self_keeps : (p : ℕ) (r : Plain) → Keeps 0 r (apply_self plain p r)
 unfolding apply_self
@@ -76,7 +75,7 @@ apply_self_keeps p r =
 -- apply 4
 pub settle_keeps : (c : ℕ) (r : Plain) → Keeps 0 r (settle plain c r)
 settle_keeps c r =
-    edit_keeps 0 c (λ s. with_position s.pending.x s.pending.y s) r (record { id = refl; parent = refl; object = refl; pending = refl; current = inl refl }) (omega arith) (omega arith)
+    edit_keeps 0 c (λ s. with_position s.pending.x s.pending.y s) r (record { parent = refl; object = refl; pending = refl; current = inl refl }) (omega arith) (omega arith)
 
 abbrev pub KeptBy : (ℕ → Plain → Plain) → Type 0
 KeptBy go = (c : ℕ) (r : Plain) → Keeps 0 r (go c r)
@@ -112,17 +111,16 @@ caching s = with_attach Nothing (with_cached s.pending.attach s)
 cached_run : (p : ℕ) (r : Plain) (es : List Event) → length es ≤ length r.events + cache_one (at r p) → Keeps 1 r (edit p caching (with_spent r.model.waiting es r))
 cached_run p r es v =
     let t = r.model.surfaces in
-    let new = caching (at r p) in
     record {
-      places = length-set t p new;
-      surfaces = put_related no_surface LinkedAlike alike_same t p new (record { id = refl; parent = refl; object = refl; pending = refl; current = inl refl });
+      places = length-set t p (option_map caching (get_or t p None));
+      surfaces = changed_related no_surface LinkedAlike alike_same t p caching (record { parent = refl; object = refl; pending = refl; current = inl refl });
       buffers = refl;
       objects = refl;
       size = refl;
       roots = refl;
       callbacks = refl;
-      glass = omega (arith, put_sum no_surface mark_one refl t p new);
-      spends = omega (arith, put_sum no_surface cache_one refl t p new, v, cached_most (at r p).pending.attach);
+      glass = omega (arith, changed_sum no_surface mark_one refl t p caching);
+      spends = omega (arith, changed_sum no_surface cache_one refl t p caching, v, cached_most (at r p).pending.attach);
     }
 
 end_cached_keeps : (p : ℕ) (r : Plain) (a : Attach) → (at r p).cached ≡ a → Keeps 1 r (edit p caching (end_cached plain a r))
@@ -151,7 +149,7 @@ commit_keeps p r =
 
 pub desync_begins : (p : ℕ) (r : Plain) → Keeps 0 r (edit p (with_sync false) r)
 desync_begins p r =
-    edit_keeps 0 p (with_sync false) r (record { id = refl; parent = refl; object = refl; pending = refl; current = inl refl }) (omega arith) (omega arith)
+    edit_keeps 0 p (with_sync false) r (record { parent = refl; object = refl; pending = refl; current = inl refl }) (omega arith) (omega arith)
 
 pub desync_keeps : (p : ℕ) (r : Plain) → Keeps 0 r (desync plain p r)
 unfolding desync

@@ -1,5 +1,5 @@
 -- A call in lists that have an end, as code carries it out, is the call of the rules; its events are written from the first place on.
-use Rattle.std.proofs.Common.{◌≡◌, ℕ, suc, ◌+◌, ◌<◌, ◌≤◌, Bool, true, false, not, ◌||◌, eqb, List, [], ◌∷◌, ◌++◌, length, get_or, drop, set, Some, None, Ok, Err, fold, filter, Option, Result, sym, refl, ap, ◌∙◌, append_assoc, arith, length-append, length-drop, drop-cons}
+use Rattle.std.proofs.Common.{◌≡◌, ℕ, suc, ◌+◌, ◌<◌, ◌≤◌, Bool, true, false, not, ◌||◌, eqb, List, [], ◌∷◌, ◌++◌, length, get_or, drop, set, Some, None, Ok, Err, fold, filter, Option, Result, sym, refl, ap, ◌∙◌, append_assoc, arith, length-append, length-drop, drop-cons, map, option_map}
 use Rattle.std.proofs.lemmas.List.{set_at, append-nil, length_push}
 use Rattle.std.proofs.lemmas.Bool.{leb-false}
 use Rattle.list.specs.Place.{any}
@@ -8,21 +8,22 @@ use Rattle.model.specs.declared.event.Event.{Event}
 use Rattle.model.specs.declared.fault.Fault.{Fault}
 use Rattle.rules.specs.declared.callback.Callback.{Callback}
 use Rattle.rules.specs.declared.stage.Stage.TheVariants.{Pending}
-use Rattle.rules.specs.State.{surface_of, Model, most, surface_at, buffer_at, object_at, object_place}
+use Rattle.rules.specs.State.{surface_of, Model, most, surface_at, buffer_at, object_at, object_place, Surface, no_surface}
 use Rattle.rules.specs.Setters.{with_pending_order, with_callbacks, with_roots, with_on, with_surfaces, put_object, edit_buffer, free_object}
 use Rattle.rules.specs.Run.{plain, start, edit, in_model, send, done, delete_id}
 use Rattle.rules.specs.Bounded.{Sheet, noted, bounded}
-use Rattle.rules.specs.Table.{each}
+use Rattle.rules.specs.Table.{free_place, record_at}
 use Rattle.rules.specs.Tree.{descends}
 use Rattle.rules.specs.Station.{◌>>=◌, refuse_if, or_refuse}
 use Rattle.rules.specs.Ask.{Found, create_surface, get_subsurface, destroy_surface, attach, damage, ask_frame, commit_surface, destroy_subsurface, set_position, place_beside, set_sync, set_desync, destroy_buffer, linked}
-use Rattle.rules.specs.Carry.{free_surface, spoken_for, crowded, full_callbacks, in_range, is_zero, siblings, adopt, place_in, unless_inert, unlink_linked, forget_object, end_subsurface, nameless, detached, end_buffer, carried}
+use Rattle.rules.specs.Carry.{spoken_for, crowded, full_callbacks, in_range, is_zero, siblings, adopt, place_in, unless_inert, unlink_linked, forget_object, end_subsurface, nameless, detached, end_buffer, carried}
 use Rattle.rules.specs.Walk.{Shown}
 use Rattle.rules.specs.Call.{raise, mark, switched, is_current, answer_one, answer_current, after_showing}
 use Rattle.rules.specs.Hold.{end_waiting}
 use Rattle.bounds.specs.Sound.{Sound, Roots}
 use Rattle.bounds.proofs.Steps.{Plain}
-use Rattle.bounds.proofs.Links.{child_of, subsurface_object}
+use Rattle.bounds.proofs.Links.{reordering, child_of, subsurface_object}
+use Rattle.bounds.proofs.Tables.{changed_alike}
 use Rattle.bounds.proofs.Coded.{Coded, sheet, coded, pushed_fits, send_coded, end_waiting_coded, commit_coded, desync_coded, unlink_coded, destroy_coded, send_living_coded}
 use Rattle.bounds.proofs.Fitting.{root_fits, child_fits}
 
@@ -79,7 +80,10 @@ module _ (old : List Event) where
       let k = object_place client id in
       let known = in_model (put_object k (subsurface_object client id s)) (start m) in
       let child = edit s (child_of k q) known in
-      ap (λ (xs : List ℕ). coded old (edit q (with_pending_order xs) child)) (child_fits m client k s q e)
+      let t = child.model.surfaces in
+      ap (λ (u : List (Option Surface)). coded old (in_model (with_surfaces u) child))
+      (changed_alike no_surface (reordering (λ ys. bounded.ordered ys s)) (reordering (λ ys. plain.ordered ys s)) t q
+      (ap (λ (xs : List ℕ). with_pending_order xs (record_at no_surface t q)) (child_fits m client k s q e)))
 
   placed_coded : (m : Model) (over : Bool) (c by : ℕ) (o : Option ℕ)
       → place_in bounded o over c by (coded old (start m)) ≡ coded_step old (place_in plain o over c by (start m))
@@ -111,11 +115,11 @@ module _ (old : List Event) where
   end_buffer_coded : (b : ℕ) (r : Plain) → end_buffer bounded b (coded old r) ≡ coded old (end_buffer plain b r)
   end_buffer_coded b r =
       let f = buffer_at r.model b in
-      send_living_coded old (delete_id f.client) f.id (in_model (λ m. edit_buffer b nameless (with_surfaces (each (detached b) m.surfaces) m)) r)
+      send_living_coded old (delete_id f.client) f.id (in_model (λ m. edit_buffer b nameless (with_surfaces (map (option_map (detached b)) m.surfaces) m)) r)
 
   -- a request
   pub carried_coded : (m : Model) (q : Found) → Sound m → carried bounded q (coded old (start m)) ≡ coded_step old (carried plain q (start m))
-  carried_coded m (create_surface client id) a = found_coded (free_surface m client) _ _ _ (λ _ _. refl)
+  carried_coded m (create_surface client id) a = found_coded (free_place m.surfaces) _ _ _ (λ _ _. refl)
   carried_coded m (get_subsurface client id s q) a =
       unless_coded (spoken_for (surface_at m s)) _ _ _ λ _.
       unless_coded (eqb q s || descends m q s) _ _ _ λ _.

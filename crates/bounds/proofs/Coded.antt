@@ -9,7 +9,7 @@ use Rattle.rules.specs.declared.attach.Attach.TheVariants.{Nothing, Null, Buffer
 use Rattle.rules.specs.declared.callback.Callback.{Callback}
 use Rattle.rules.specs.declared.stage.Stage.TheVariants.{Pending, Cached, Current}
 use Rattle.rules.specs.State.{Waiting, most, no_surface, buffer_at}
-use Rattle.rules.specs.Setters.{with_attach, with_cached, with_hold, with_mark, with_sync, with_callbacks, with_waiting, with_parent, with_roots, put_surface}
+use Rattle.rules.specs.Setters.{with_attach, with_cached, with_hold, with_mark, with_sync, with_callbacks, with_waiting, with_parent, with_roots, free_surface}
 use Rattle.rules.specs.Run.{Run, plain, at, edit, in_model, send, release, delete_id, send_living}
 use Rattle.rules.specs.Bounded.{Sheet, noted, bounded}
 use Rattle.rules.specs.Hold.{end_hold, end_cached, end_current, end_waiting, held}
@@ -70,7 +70,7 @@ module _ (old : List Event) where
   end_current_coded p r (Some b) None e h = end_hold_coded b r
   end_current_coded p r (Some b) (Some k) e h =
       let w : Waiting = record { buffer = b; mark = k } in
-      let room : length r.model.waiting < 32 = omega (arith, put_sum no_surface mark_one refl r.model.surfaces p no_surface, ap one e, h) in
+      let room : length r.model.waiting < 32 = omega (arith, put_sum no_surface mark_one refl r.model.surfaces p None, ap one e, h) in
       ap (λ (ws : List Waiting). record { model = with_waiting ws r.model; events = sheet old r.events }) (pushed_fits 32 r.model.waiting w room)
 
   ends_coded : (ws : List Waiting) (r : Plain) → fold (λ t w. end_hold bounded w.buffer t) (coded old r) ws ≡ coded old (fold (λ t w. end_hold plain w.buffer t) r ws)
@@ -185,7 +185,7 @@ module _ (old : List Event) where
   end_surface_coded : (p : ℕ) (r : Plain) → end_surface bounded p (coded old r) ≡ coded old (end_surface plain p r)
   end_surface_coded p r =
       let s = at r p in
-      send_coded (delete_id s.client s.id) (in_model (λ m. put_surface p no_surface (made_inert s.object None m)) r)
+      send_coded (delete_id s.client s.id) (in_model (λ m. free_surface p (made_inert s.object None m)) r)
 
   pub destroy_coded : (p : ℕ) (r : Plain) → Room r → destroy bounded p (coded old r) ≡ coded old (destroy plain p r)
   unfolding destroy

@@ -17,7 +17,7 @@ abbrev pub OrdersOf : Plain → Type 0
 OrdersOf r = Orders r.model.surfaces
 
 -- each of these is p, or a child of p
-abbrev Own : List Surface → ℕ → List ℕ → Type 0
+abbrev Own : List (Option Surface) → ℕ → List ℕ → Type 0
 Own t p cs = (c : ℕ) → Member c cs → (c ≡ p) ⊎ (parent_in t c ≡ Some p)
 
 parents_kept : (n : ℕ) (r t : Plain) → Keeps n r t → (q : ℕ) → parent_in t.model.surfaces q ≡ parent_in r.model.surfaces q
@@ -91,7 +91,7 @@ walk_enough (suc n) m x y p a f =
     walk_enough n m (x +ℤ (surface_at m c).current.x) (y +ℤ (surface_at m c).current.y) c a below
 
 -- any more levels change nothing
-module _ (t : List Surface) (a : Orders t) where
+module _ (t : List (Option Surface)) (a : Orders t) where
   pub fits_here : (n p : ℕ) → Fits t (n + 32) p
   fits_here zero p = fits_all t a.forest a.places p
   fits_here (suc n) p = subst (λ k. Fits t k p) (sym (suc-add n 32)) (fits_more t (n + 32) p (fits_here n p))

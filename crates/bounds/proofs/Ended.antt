@@ -1,5 +1,6 @@
 -- Requests that end a surface, a sub-surface object or a buffer.
-use Rattle.std.proofs.Common.{◌≡◌, ℕ, ◌+◌, ◌<◌, ◌≤◌, not, eqb, List, length, get_or, set, Some, None, sum_by, Option, sym, refl, ap, ◌∙◌, subst, inl, inr, arith, get_or-set_other, option_map}
+use Rattle.std.proofs.Common.{◌≡◌, ℕ, ◌+◌, ◌<◌, ◌≤◌, not, eqb, List, length, map, get_or, set, Some, None, sum_by, Option, sym, refl, ap, ◌∙◌, subst, inl, inr, arith, get_or-set_other, option_map}
+use lib.ListN.{length-map}
 use Rattle.std.proofs.ByRecursion.{all_kept_by}
 use Rattle.std.proofs.lemmas.List.{length_push}
 use Rattle.std.proofs.lemmas.Bool.{cases_eq, cond_both}
@@ -11,17 +12,17 @@ use Rattle.rules.specs.declared.object.Object.{Object}
 use Rattle.rules.specs.declared.object.ObjectKind.{ObjectKind}
 use Rattle.rules.specs.declared.object.ObjectKind.TheVariants.{Display, Compositor, Subcompositor, Subsurface, InertSubsurface}
 use Rattle.rules.specs.State.{surface_of, Model, Surface, most, no_surface, surface_at, buffer_at, object_at}
-use Rattle.rules.specs.Setters.{with_roots, with_object, with_attach, with_surfaces, edit_buffer, put_surface, free_object}
+use Rattle.rules.specs.Setters.{with_roots, with_object, with_attach, with_surfaces, edit_buffer, free_surface, free_object}
 use Rattle.rules.specs.Run.{plain, start, at, edit, in_model, send, release, delete_id}
 use Rattle.rules.specs.Hold.{end_current}
 use Rattle.rules.specs.Callback.{end_callbacks}
-use Rattle.rules.specs.Table.{changed, each_from, without}
+use Rattle.rules.specs.Table.{changed, without, records}
 use Rattle.rules.specs.Unlink.{as_inert, made_inert, unlink, unlink_children, destroy}
 use Rattle.rules.specs.Ask.{linked, linked_by}
 use Rattle.rules.specs.Carry.{is_held, detached, nameless, unlink_linked, forget_object, end_subsurface, end_buffer}
 use Rattle.bounds.specs.Forest.{parent_in}
 use Rattle.bounds.specs.Sound.{Sound, Tree, Spans, Roots, kind_in, one, on_glass}
-use Rattle.bounds.proofs.Tables.{put_sum, put_here, each_related, each_length, each_sum, sum_ones}
+use Rattle.bounds.proofs.Tables.{put_sum, changed_sum, put_here, all_related, all_sum, sum_ones}
 use Rattle.bounds.proofs.Pigeons.{once_kept}
 use Rattle.bounds.proofs.Steps.{Plain, mark_one, one_most, sent_living, end_hold_model, end_callbacks_model, end_callbacks_events, LinkedAlike, alike_same}
 use Rattle.bounds.proofs.Trees.{tree_alike}
@@ -77,12 +78,12 @@ orphaned_kinds (Some j) os k x e =
     ]
 
 ended_tree : (p : ℕ) (o : Option ℕ) (m : Model) → (surface_at m p).object ≡ o → (surface_at m p).parent ≡ None → Tree m.surfaces m.objects
-    → Tree (put_surface p no_surface (made_inert o None m)).surfaces (put_surface p no_surface (made_inert o None m)).objects
+    → Tree (free_surface p (made_inert o None m)).surfaces (free_surface p (made_inert o None m)).objects
 ended_tree p None m e n a =
-    tree_replaced m.surfaces m.objects (orphaned None m.objects) p no_surface a n refl refl tt (λ c k. absurd k) (λ c k. absurd k)
+    tree_replaced m.surfaces m.objects (orphaned None m.objects) p None a n refl refl tt (λ c k. absurd k) (λ c k. absurd k)
     (λ k x h. let w = orphaned_kinds None m.objects k x h in (w.0, λ z. w.1 (sym e ∙ z)))
 ended_tree p (Some j) m e n a =
-    tree_replaced m.surfaces m.objects (orphaned (Some j) m.objects) p no_surface a n refl refl tt (λ c k. absurd k) (λ c k. absurd k)
+    tree_replaced m.surfaces m.objects (orphaned (Some j) m.objects) p None a n refl refl tt (λ c k. absurd k) (λ c k. absurd k)
     (λ k x h. let w = orphaned_kinds (Some j) m.objects k x h in (w.0, λ z. w.1 (sym e ∙ z)))
 
 -- a root less
@@ -92,14 +93,14 @@ roots_without p ps a =
 
 -- what else the end of a surface leaves
 record SurfaceEnds (p : ℕ) (m n : Model) : Type 0 where
-  surfaces : n.surfaces ≡ set m.surfaces p no_surface
+  surfaces : n.surfaces ≡ set m.surfaces p None
   buffers : n.buffers ≡ m.buffers
   size : n.size ≡ m.size
   roots : n.roots ≡ m.roots
   callbacks : n.callbacks ≡ m.callbacks
   waiting : n.waiting ≡ m.waiting
 
-surface_ends : (p : ℕ) (o : Option ℕ) (m : Model) → SurfaceEnds p m (put_surface p no_surface (made_inert o None m))
+surface_ends : (p : ℕ) (o : Option ℕ) (m : Model) → SurfaceEnds p m (free_surface p (made_inert o None m))
 surface_ends p None m = record { surfaces = refl; buffers = refl; size = refl; roots = refl; callbacks = refl; waiting = refl }
 surface_ends p (Some k) m = record { surfaces = refl; buffers = refl; size = refl; roots = refl; callbacks = refl; waiting = refl }
 
@@ -153,11 +154,11 @@ module _ (m : Model) (p : ℕ) (a : Sound m) where
   tree₄ = tree_same d₁.model d₄.model model₄ objects₄ tree₁
 
   alone₄ : (at d₄ p).parent ≡ None
-  alone₄ = ap (λ (t : List Surface). parent_in t p) model₄ ∙ alone₁
+  alone₄ = ap (λ (t : List (Option Surface)). parent_in t p) model₄ ∙ alone₁
 
   -- the end of the record
   last : Model
-  last = put_surface p no_surface (made_inert (at d₄ p).object None d₄.model)
+  last = free_surface p (made_inert (at d₄ p).object None d₄.model)
 
   ended : SurfaceEnds p d₄.model last
   unfolding last
@@ -172,14 +173,14 @@ module _ (m : Model) (p : ℕ) (a : Sound m) where
       let t = d₁.model.surfaces in
       omega (
         arith,
-        ap (sum_by mark_one) ended.surfaces,
+        ap (λ (x : List (Option Surface)). sum_by mark_one (records x)) ended.surfaces,
         ap length ended.waiting,
-        ap (λ (x : List Surface). sum_by mark_one (set x p no_surface)) model₄,
-        put_sum no_surface mark_one refl t p no_surface,
+        ap (λ (x : List (Option Surface)). sum_by mark_one (records (set x p None))) model₄,
+        put_sum no_surface mark_one refl t p None,
         ends₄.glass,
-        ap (sum_by mark_one) hold₃.surfaces,
+        ap (λ (x : List (Option Surface)). sum_by mark_one (records x)) hold₃.surfaces,
         hold₃.waiting,
-        ap (sum_by mark_one) model₄,
+        ap (λ (x : List (Option Surface)). sum_by mark_one (records x)) model₄,
         ends₁.glass,
         a.glass,
       )
@@ -227,7 +228,7 @@ module _ (m : Model) (k : ℕ) (event : Event) (a : Sound m) where
         sound = record {
           tree = tree_forgotten x t.model.objects k p b n o;
           spans = subst (λ (bs : List (Option Buffer)). Spans t.model.size bs) (sym e.buffers) (subst (λ z. Spans z m.buffers) (sym e.size) a.spans);
-          glass = omega (arith, put_sum no_surface mark_one refl x p (with_object None (get_or x p no_surface)), e.glass, a.glass);
+          glass = omega (arith, changed_sum no_surface mark_one refl x p (with_object None), e.glass, a.glass);
           roots = subst Roots (sym e.roots) a.roots;
           callbacks = omega (arith, e.callbacks, a.callbacks);
         };
@@ -255,24 +256,24 @@ pub subsurface_ended_fine : (m : Model) (k : ℕ) → Sound m → Fine (end_subs
 subsurface_ended_fine m k a = subsurface_gone m k (delete_id (object_at m k).client (object_at m k).id) a (object_at m k).kind refl
 
 -- wl_buffer.destroy
-detached_alike : (b p : ℕ) (s : Surface) → LinkedAlike s (detached b p s)
-detached_alike b p s =
-    cond_both (is_held b s.pending.attach) (with_attach Null s) s (LinkedAlike s) (λ _. record { id = refl; parent = refl; object = refl; pending = refl; current = inl refl }) (λ _. alike_same s)
+detached_alike : (b : ℕ) (s : Surface) → LinkedAlike s (detached b s)
+detached_alike b s =
+    cond_both (is_held b s.pending.attach) (with_attach Null s) s (LinkedAlike s) (λ _. record { parent = refl; object = refl; pending = refl; current = inl refl }) (λ _. alike_same s)
 
-detached_mark : (b p : ℕ) (s : Surface) → mark_one (detached b p s) ≤ mark_one s
-detached_mark b p s = cond_both (is_held b s.pending.attach) (with_attach Null s) s (λ (u : Surface). mark_one u ≤ mark_one s) (λ _. omega arith) (λ _. omega arith)
+detached_mark : (b : ℕ) (s : Surface) → mark_one (detached b s) ≤ mark_one s
+detached_mark b s = cond_both (is_held b s.pending.attach) (with_attach Null s) s (λ (u : Surface). mark_one u ≤ mark_one s) (λ _. omega arith) (λ _. omega arith)
 
 pub buffer_ended_fine : (m : Model) (b : ℕ) → Sound m → Fine (end_buffer plain b (start m))
 buffer_ended_fine m b a =
     let f = buffer_at m b in
     let t = m.surfaces in
-    let u = each_from (detached b) 0 t in
+    let u = map (option_map (detached b)) t in
     let n = edit_buffer b nameless (with_surfaces u m) in
     let sound : Sound n =
     record {
-      tree = tree_alike t u m.objects (each_length (detached b) 0 t) (each_related no_surface LinkedAlike (alike_same no_surface) (detached b) (detached_alike b) 0 t) a.tree;
+      tree = tree_alike t u m.objects (length-map t (option_map (detached b))) (all_related no_surface LinkedAlike (alike_same no_surface) (detached b) (detached_alike b) t) a.tree;
       spans = spans_nameless m.size m.buffers b a.spans;
-      glass = omega (arith, each_sum mark_one (detached b) (detached_mark b) 0 t, a.glass);
+      glass = omega (arith, all_sum mark_one (detached b) (detached_mark b) t, a.glass);
       roots = a.roots;
       callbacks = a.callbacks;
     } in

@@ -1,5 +1,5 @@
 -- Orders, roots and callbacks have room for one more where a request adds one.
-use Rattle.std.proofs.Common.{◌≡◌, ℕ, ◌<◌, ◌≤◌, Bool, false, not, eqb, List, [], ◌∷◌, ◌++◌, length, get_or, Some, sym, refl, ap, subst, inl, inr, arith}
+use Rattle.std.proofs.Common.{◌≡◌, ℕ, ◌<◌, ◌≤◌, Bool, false, not, eqb, List, [], ◌∷◌, ◌++◌, length, Some, sym, refl, ap, subst, inl, inr, arith}
 use Rattle.std.specs.List.{AllByRecursion}
 use Rattle.std.proofs.lemmas.List.{length_push}
 use Rattle.std.proofs.lemmas.Bool.{leb-false}
@@ -10,7 +10,7 @@ use Rattle.rules.specs.Carry.{inserted, siblings, crowded}
 use Rattle.bounds.specs.Forest.{parent_in}
 use Rattle.bounds.specs.Member.{Member, Once}
 use Rattle.bounds.specs.Sound.{Sound, Roots, pending_in}
-use Rattle.bounds.proofs.Tables.{put_related, without_member}
+use Rattle.bounds.proofs.Tables.{changed_related, without_member}
 use Rattle.bounds.proofs.Pigeons.{pigeons, once_kept}
 use Rattle.bounds.proofs.Counted.{inserted_once}
 use Rattle.bounds.proofs.Forests.{has_place}
@@ -30,7 +30,7 @@ pub child_fits : (m : Model) (client k s q : ℕ) → crowded m client q ≡ fal
 child_fits m client k s q e =
     let t = m.surfaces in
     let same : pending_in (with_child k s q t) q ≡ pending_in t q =
-    put_related no_surface (λ (u v : Surface). v.pending.order ≡ u.pending.order) (λ u. refl) t s (child_of k q (get_or t s no_surface)) refl q in
+    changed_related no_surface (λ (u v : Surface). v.pending.order ≡ u.pending.order) (λ u. refl) t s (child_of k q) refl q in
     pushed_fits 32 (pending_in (with_child k s q t) q) s (omega (arith, leb-false 16 (length (pending_in t q)) e, ap length same))
 
 all_members : (P : ℕ → Type 0) (xs : List ℕ) → ((x : ℕ) → Member x xs → P x) → AllByRecursion P xs

@@ -1,5 +1,5 @@
 -- Ways up a forest of surfaces: how long they are, and what keeps a forest a forest.
-use Rattle.std.proofs.Common.{◌≡◌, ℕ, zero, suc, ◌+◌, ◌<◌, Bool, true, false, ◌||◌, eqb, ◌≢◌, ◌⊎◌, List, [], ◌∷◌, length, get_or, replicate, Some, None, Option, sym, refl, ap, ◌∙◌, inl, inr, ⊎_elim, suc-add, zero-add, arith}
+use Rattle.std.proofs.Common.{◌≡◌, ℕ, zero, suc, ◌+◌, ◌<◌, Bool, true, false, ◌||◌, eqb, ◌≢◌, ◌⊎◌, List, [], ◌∷◌, length, replicate, Some, None, Option, sym, refl, ap, ◌∙◌, inl, inr, ⊎_elim, suc-add, zero-add, arith, unwrap_or}
 use lib.ListN.{get_or-replicate}
 use Rattle.std.specs.List.{AllByRecursion}
 use Rattle.std.proofs.ByRecursion.{All-weaker}
@@ -10,21 +10,22 @@ use Rattle.rules.specs.Tree.{above, held_back_in, descends_in, descends}
 use Rattle.bounds.specs.Forest.{parent_in, Climb, stay, rise, Forest, Fits}
 use Rattle.bounds.specs.Member.{Once}
 use Rattle.bounds.proofs.Pigeons.{pigeons}
+use Rattle.rules.specs.Table.{record_at}
 
-module _ (t : List Surface) (p q : ℕ) (e : parent_in t p ≡ Some q) where
+module _ (t : List (Option Surface)) (p q : ℕ) (e : parent_in t p ≡ Some q) where
   -- a place with a parent has a surface
-  occupied : get_or t p no_surface ≢ no_surface
+  occupied : record_at no_surface t p ≢ no_surface
   occupied none = let z : parent_in t p ≡ None = ap (λ (s : Surface). s.parent) none in grind arith
 
   -- so a place with one is in the table
   pub has_place : p < length t
-  has_place = ⊎_elim (λ h. h) (λ h. absurd (occupied (get_or_past t p no_surface h))) (cases_lt p (length t))
+  has_place = ⊎_elim (λ h. h) (λ h. absurd (occupied (ap (λ o. unwrap_or o no_surface) (get_or_past t p None h)))) (cases_lt p (length t))
 
 -- some way leads up from p to x
-abbrev Reached : List Surface → ℕ → ℕ → Type 0
+abbrev Reached : List (Option Surface) → ℕ → ℕ → Type 0
 Reached t p x = (k : ℕ) × Climb t k p x
 
-module _ {t : List Surface} where
+module _ {t : List (Option Surface)} where
   -- the places on a way up
   abbrev path : {n p a : ℕ} → Climb t n p a → List ℕ
   path (stay p) = p ∷ []
@@ -50,7 +51,7 @@ module _ {t : List Surface} where
   path_within f (stay p) h = (h, tt)
   path_within f (rise n p q a e c) h = (h, path_within f c (f.parents p q e))
 
-module _ (t : List Surface) (f : Forest t) (l : length t ≡ 32) where
+module _ (t : List (Option Surface)) (f : Forest t) (l : length t ≡ 32) where
   -- a way up has fewer steps than the table has places
   pub climb_short : (n p a : ℕ) → Climb t n p a → n < 32
   climb_short _ _ _ (stay p) = omega arith
@@ -63,34 +64,34 @@ module _ (t : List Surface) (f : Forest t) (l : length t ≡ 32) where
   fits_all p k a c = climb_short k a p c
 
 -- one way up, then another
-joined : (t : List Surface) (n p a : ℕ) → Climb t n p a → (k b : ℕ) → Climb t k a b → Climb t (n + k) p b
+joined : (t : List (Option Surface)) (n p a : ℕ) → Climb t n p a → (k b : ℕ) → Climb t k a b → Climb t (n + k) p b
 joined t _ _ _ (stay p) k b d = rw zero-add d
 joined t _ _ _ (rise n p q a e c) k b d = rw suc-add (rise (n + k) p q b e (joined t n q a c k b d))
 
 -- a child has a level less below it
-pub fits_child : (t : List Surface) (n p c : ℕ) → Fits t (suc n) p → parent_in t c ≡ Some p → Fits t n c
+pub fits_child : (t : List (Option Surface)) (n p c : ℕ) → Fits t (suc n) p → parent_in t c ≡ Some p → Fits t n c
 fits_child t n p c h e k a w = omega (arith, h (k + 1) a (joined t k a c w 1 p (rise 0 c p p e (stay p))))
 
 -- what fits n levels fits one more
-pub fits_more : (t : List Surface) (n p : ℕ) → Fits t n p → Fits t (suc n) p
+pub fits_more : (t : List (Option Surface)) (n p : ℕ) → Fits t n p → Fits t (suc n) p
 fits_more t n p h k a c = omega (arith, h k a c)
 
 -- a surface is itself a level
-pub fits_none : (t : List Surface) (p : ℕ) → Fits t 0 p → ⊥
+pub fits_none : (t : List (Option Surface)) (p : ℕ) → Fits t 0 p → ⊥
 fits_none t p h = omega (arith, h 0 p (stay p))
 
 -- a way up by parents that were there before was a way up
-was_climb : (t u : List Surface) → ((p q : ℕ) → parent_in u p ≡ Some q → parent_in t p ≡ Some q)
+was_climb : (t u : List (Option Surface)) → ((p q : ℕ) → parent_in u p ≡ Some q → parent_in t p ≡ Some q)
     → (n p a : ℕ) → Climb u n p a → Climb t n p a
 was_climb t u was _ _ _ (stay p) = stay p
 was_climb t u was _ _ _ (rise n p q a e c) = rise n p q a (was p q e) (was_climb t u was n q a c)
 
 -- the parents alone say what fits
-pub fits_same : (t u : List Surface) → ((q : ℕ) → parent_in u q ≡ parent_in t q) → (n p : ℕ) → Fits t n p → Fits u n p
+pub fits_same : (t u : List (Option Surface)) → ((q : ℕ) → parent_in u q ≡ parent_in t q) → (n p : ℕ) → Fits t n p → Fits u n p
 fits_same t u same n p h k a c = h k a (was_climb t u (λ x y e. sym (same x) ∙ e) k a p c)
 
 -- a forest stays one where parents stay or go
-pub pruned : (t u : List Surface) → Forest t → length u ≡ length t
+pub pruned : (t u : List (Option Surface)) → Forest t → length u ≡ length t
     → ((p : ℕ) → (parent_in u p ≡ parent_in t p) ⊎ (parent_in u p ≡ None)) → Forest u
 pruned t u f l kept =
     record {
@@ -101,20 +102,20 @@ pruned t u f l kept =
     was : (p q : ℕ) → parent_in u p ≡ Some q → parent_in t p ≡ Some q
     was p q e = ⊎_elim (λ same. sym same ∙ e) (λ gone. grind arith) (kept p)
 
-no_parent : (p q : ℕ) → parent_in (replicate 32 no_surface) p ≡ Some q → ⊥
+no_parent : (p q : ℕ) → parent_in (replicate 32 None) p ≡ Some q → ⊥
 no_parent p q e =
-    let t = replicate 32 no_surface in
-    occupied t p q e (get_or-replicate 32 p no_surface no_surface (has_place t p q e))
+    let t = replicate 32 None in
+    occupied t p q e (ap (λ o. unwrap_or o no_surface) (get_or-replicate 32 p None None (has_place t p q e)))
 
-no_rise : (n p a : ℕ) → Climb (replicate 32 no_surface) (suc n) p a → ⊥
+no_rise : (n p a : ℕ) → Climb (replicate 32 None) (suc n) p a → ⊥
 no_rise n p a (rise _ _ q _ e c) = no_parent p q e
 
 -- in a new table no surface has a parent
-pub empty_forest : Forest (replicate 32 no_surface)
+pub empty_forest : Forest (replicate 32 None)
 empty_forest = record { no_cycle = λ n p c. no_rise n p p c; parents = λ p q e. absurd (no_parent p q e) }
 
 -- a test that looks up n steps: of a parent it asks g, and then itself with a step less
-module _ (t : List Surface) (g : ℕ → ℕ → Bool) (test : ℕ → ℕ → Bool)
+module _ (t : List (Option Surface)) (g : ℕ → ℕ → Bool) (test : ℕ → ℕ → Bool)
     (step : (n p : ℕ) → test (suc n) p ≡ above (parent_in t p) (λ q. g p q || test n q)) where
   -- where no way up has n steps, one step more tells no more
   one_more : (n p : ℕ) → ((a : ℕ) → Climb t n p a → ⊥) → test (suc n) p ≡ test n p
@@ -133,7 +134,7 @@ module _ (t : List Surface) (g : ℕ → ℕ → Bool) (test : ℕ → ℕ → B
       ∙ one_more (n + 32) p (λ a c. omega (arith, climb_short t f l (n + 32) p a c))
       ∙ far_enough f l n p
 
-same_end : {t : List Surface} {n p a : ℕ} → Climb t n p a → n ≡ 0 → p ≡ a
+same_end : {t : List (Option Surface)} {n p a : ℕ} → Climb t n p a → n ≡ 0 → p ≡ a
 same_end (stay p) e = refl
 same_end (rise n p q a h c) e = absurd (omega arith)
 
@@ -167,7 +168,7 @@ module _ (m : Model) (f : Forest m.surfaces) (l : length m.surfaces ≡ 32) wher
       let short = climb_short m.surfaces f l (suc n) q s c in
       both_ways (descends m q s) (or_parts (eqb q s) (descends m q s) e).1 (found m 32 n q s c (omega arith))
 
-module _ (t u : List Surface) (s q : ℕ)
+module _ (t u : List (Option Surface)) (s q : ℕ)
     (same : (p : ℕ) → p ≢ s → parent_in u p ≡ parent_in t p) (new : (x : ℕ) → parent_in u s ≡ Some x → x ≡ q) where
   -- what a way up was before s got the parent q: itself, or a way to s and one from q
   before : (n p a : ℕ) → Climb u n p a → Climb t n p a ⊎ ((k : ℕ) × (j : ℕ) × Climb t k p s × Climb t j q a)
@@ -182,7 +183,7 @@ module _ (t u : List Surface) (s q : ℕ)
       go (inr h) (inr r) = inr (suc r.0, r.1, rise r.0 p x s (sym (same p h) ∙ e) r.2, r.3)
 
 -- a forest stays one where s gets the parent q, and no way up led from q to s
-pub adopted : (t u : List Surface) (s q : ℕ) → Forest t → length u ≡ length t → q < length t
+pub adopted : (t u : List (Option Surface)) (s q : ℕ) → Forest t → length u ≡ length t → q < length t
     → ((p : ℕ) → p ≢ s → parent_in u p ≡ parent_in t p) → ((x : ℕ) → parent_in u s ≡ Some x → x ≡ q)
     → ((n : ℕ) → Climb t n q s → ⊥) → Forest u
 adopted t u s q f l lq same new far =

@@ -1,48 +1,49 @@
 -- Requests that make a surface, adopt one or place one in an order.
-use Rattle.std.proofs.Common.{◌≡◌, ℕ, Bool, true, false, cond, not, ◌||◌, eqb, ◌⊎◌, List, [], ◌∷◌, ◌++◌, get_or, is_some, Some, None, Option, sym, refl, ◌∙◌, subst, inl, inr, arith}
-use Rattle.std.proofs.lemmas.Bool.{eqb-true, or_parts, true≢false}
+use Rattle.std.proofs.Common.{◌≡◌, ℕ, Bool, true, false, cond, not, ◌||◌, eqb, ◌⊎◌, List, [], ◌∷◌, ◌++◌, get_or, is_some, Some, None, Option, sym, refl, ◌∙◌, subst, inl, inr, arith, is_none, ap, unwrap_or}
+use Rattle.std.proofs.lemmas.Bool.{or_parts, true≢false}
 use Rattle.rules.specs.State.{Model, no_surface, surface_at, object_place}
-use Rattle.rules.specs.Run.{plain, start, edit}
-use Rattle.rules.specs.Setters.{with_pending_order}
+use Rattle.rules.specs.Run.{plain, start, edit, in_model}
+use Rattle.rules.specs.Setters.{with_pending_order, put_surface}
 use Rattle.rules.specs.Tree.{descends}
-use Rattle.rules.specs.Carry.{free_surface, new_surface, is_root, spoken_for, beside, inserted, siblings, adopt}
+use Rattle.rules.specs.Carry.{new_surface, is_root, spoken_for, beside, inserted, siblings, adopt}
 use Rattle.bounds.specs.Forest.{parent_in}
 use Rattle.bounds.specs.Member.{Member, Once}
 use Rattle.bounds.specs.Sound.{Sound, object_in}
-use Rattle.bounds.proofs.Tables.{put_sum, found_at, without_member, joined_member}
+use Rattle.bounds.proofs.Tables.{put_sum, changed_sum, found_at, without_member, joined_member}
 use Rattle.bounds.proofs.Pigeons.{once_kept}
 use Rattle.bounds.proofs.Counted.{inserted_once}
 use Rattle.bounds.proofs.Forests.{apart}
 use Rattle.bounds.proofs.Steps.{mark_one}
-use Rattle.bounds.proofs.Trees.{some_none, id_in}
-use Rattle.bounds.proofs.Links.{tree_replaced, tree_adopted, tree_reordered, with_child, child_of}
+use Rattle.bounds.proofs.Trees.{some_none}
+use Rattle.bounds.proofs.Links.{reordering, tree_replaced, tree_adopted, tree_reordered, with_child, child_of}
 use Rattle.bounds.proofs.Stations.{FoundSurface}
 use Rattle.bounds.proofs.Kept.{Fine}
-
-none_there : (o : Option ℕ) → ((q : ℕ) → o ≡ Some q → ⊥) → o ≡ None
-none_there None h = refl
-none_there (Some q) h = absurd (h q refl)
+use Rattle.rules.specs.Table.{free_place}
 
 none_some : (o : Option ℕ) → is_some o ≡ false → o ≡ None
 none_some None e = refl
 none_some (Some q) e = absurd (true≢false e)
 
+none_of : {A : Type 0} (o : Option A) → is_none o ≡ true → o ≡ None
+none_of None e = refl
+none_of (Some a) e = absurd (true≢false (sym e))
+
 -- create_surface, in a free place
-pub created : (m : Model) (client id p : ℕ) → Sound m → free_surface m client ≡ Some p → Fine (edit p (λ _. new_surface client id p) (start m))
+pub created : (m : Model) (client id p : ℕ) → Sound m → free_place m.surfaces ≡ Some p → Fine (in_model (put_surface p (new_surface client id p)) (start m))
 created m client id p a e =
     let t = m.surfaces in
     let new = new_surface client id p in
-    let r = found_at (λ s. eqb s.id 0) no_surface 0 t p e in
+    let r = found_at is_none None 0 t p e in
     let here : r.0 ≡ p = let w = r.1 in omega arith in
-    let free : id_in t p ≡ 0 = subst (λ k. id_in t k ≡ 0) here (eqb-true (id_in t r.0) 0 r.3) in
-    let none : object_in t p ≡ None = a.tree.free p free in
-    let alone : parent_in t p ≡ None = none_there (parent_in t p) (λ q h. a.tree.linked p q h none) in
+    let free : get_or t p None ≡ None = subst (λ k. get_or t k None ≡ None) here (none_of (get_or t r.0 None) r.3) in
+    let none : object_in t p ≡ None = ap (λ o. (unwrap_or o no_surface).object) free in
+    let alone : parent_in t p ≡ None = ap (λ o. (unwrap_or o no_surface).parent) free in
     let own : (c : ℕ) → Member c (p ∷ []) → c ≡ p = λ c k. elim k [ inl z ↦ z | inr z ↦ absurd z ] in
     record {
       sound = record {
-        tree = tree_replaced t m.objects m.objects p new a.tree alone refl refl (tt, tt) own own (λ k x h. (refl, λ z. some_none k (sym z ∙ none)));
+        tree = tree_replaced t m.objects m.objects p (Some new) a.tree alone refl refl (tt, tt) own own (λ k x h. (refl, λ z. some_none k (sym z ∙ none)));
         spans = a.spans;
-        glass = omega (arith, put_sum no_surface mark_one refl t p new, a.glass);
+        glass = omega (arith, put_sum no_surface mark_one refl t p (Some new), a.glass);
         roots = a.roots;
         callbacks = a.callbacks;
       };
@@ -57,12 +58,11 @@ adopted_fine m client id s q a fs fq e d =
     let k = object_place client id in
     let none : object_in t s ≡ None = none_some (object_in t s) (or_parts (is_root (surface_at m s).role) (is_some (object_in t s)) e).1 in
     let u = with_child k s q t in
-    let top = with_pending_order ((get_or u q no_surface).pending.order ++ s ∷ []) (get_or u q no_surface) in
     record {
       sound = record {
-        tree = tree_adopted t m.objects k client id s q a.tree fs.within fq.within fs.lives none (apart m a.tree.orders.forest a.tree.orders.places q s d);
+        tree = tree_adopted t m.objects k client id s q a.tree fs.it fs.there fq.within none (apart m a.tree.orders.forest a.tree.orders.places q s d);
         spans = a.spans;
-        glass = omega (arith, put_sum no_surface mark_one refl t s (child_of k q (get_or t s no_surface)), put_sum no_surface mark_one refl u q top, a.glass);
+        glass = omega (arith, changed_sum no_surface mark_one refl t s (child_of k q), changed_sum no_surface mark_one refl u q (reordering (λ ys. ys ++ s ∷ [])), a.glass);
         roots = a.roots;
         callbacks = a.callbacks;
       };
@@ -102,9 +102,9 @@ placed_fine m over q c by a e =
     inserted_once over c by (siblings m q c) (once_kept (λ x. not (eqb x c)) there (a.tree.orders.once q)) (λ k. (without_member c there c k).1 refl) in
     record {
       sound = record {
-        tree = tree_reordered t m.objects q xs child once a.tree;
+        tree = tree_reordered t m.objects q (λ _. xs) child once a.tree;
         spans = a.spans;
-        glass = omega (arith, put_sum no_surface mark_one refl t q (with_pending_order xs (get_or t q no_surface)), a.glass);
+        glass = omega (arith, changed_sum no_surface mark_one refl t q (with_pending_order xs), a.glass);
         roots = a.roots;
         callbacks = a.callbacks;
       };

@@ -1,5 +1,5 @@
 -- From a new core on, every core is sound.
-use Rattle.std.proofs.Common.{◌≡◌, ℕ, zero, suc, List, [], ◌∷◌, ◌++◌, get_or, replicate, sym, refl, ap, ◌∙◌, subst, arith, Option, None}
+use Rattle.std.proofs.Common.{◌≡◌, ℕ, zero, suc, List, [], ◌∷◌, ◌++◌, replicate, sym, refl, ap, ◌∙◌, subst, arith, Option, None, unwrap_or}
 use Rattle.rules.specs.declared.object.Object.{Object}
 use Rattle.rules.specs.State.{surface_of, Model, Surface, most, no_surface, globals, empty}
 use Rattle.rules.specs.Call.{Call, rule, after}
@@ -15,6 +15,7 @@ use Rattle.bounds.proofs.Steps.{mark_one, one_most}
 use Rattle.bounds.proofs.Trees.{some_none, orders_same}
 use Rattle.bounds.proofs.Ruled.{rule_sound, rule_events}
 use Rattle.bounds.proofs.Depth.{apply_deep, walk_deep}
+use Rattle.rules.specs.Table.{record_at}
 
 -- objects among which there is no sub-surface object
 abbrev NoSubsurface : List (Option Object) → Type 0
@@ -41,10 +42,10 @@ all_globals =
     (both (globals 0 ++ globals 1) (globals 2) (both (globals 0) (globals 1) (own_globals 0) (own_globals 1)) (own_globals 2)) (own_globals 3)
 
 -- a new core
-none_at : (p : ℕ) → get_or (replicate most no_surface) p no_surface ≡ no_surface
-none_at p = replicated no_surface most p
+none_at : (p : ℕ) → record_at no_surface (replicate most None) p ≡ no_surface
+none_at p = ap (λ o. unwrap_or o no_surface) (replicated None most p)
 
-empty_orders : Orders (replicate most no_surface)
+empty_orders : Orders (replicate most None)
 empty_orders =
     record {
       places = refl;
@@ -62,10 +63,9 @@ empty_sound size =
         linked = λ p q e n. some_none q (sym e ∙ ap (λ (s : Surface). s.parent) (none_at p));
         inert = λ k p e. absurd (none-some p (sym (all_globals k) ∙ ap surface_of e));
         known = λ k p e. absurd (none-some p (sym (all_globals k) ∙ e));
-        free = λ p e. ap (λ (s : Surface). s.object) (none_at p);
       };
       spans = no_spans (empty size).size most;
-      glass = omega (arith, sum_ones mark_one (λ s. one_most s.current.mark) (replicate most no_surface));
+      glass = omega (arith, sum_ones mark_one (λ s. one_most s.current.mark) (replicate most None));
       roots = record { once = tt; places = tt };
       callbacks = omega arith;
     }

@@ -18,7 +18,7 @@ use Rattle.rules.specs.Apply.{commit, desync}
 use Rattle.rules.specs.Tree.{descends}
 use Rattle.rules.specs.Name.{named, interface_of, place_of, new_id, the_surface}
 use Rattle.rules.specs.Ask.{Found, create_surface, get_subsurface, destroy_surface, attach, damage, ask_frame, commit_surface, destroy_subsurface, set_position, place_beside, set_sync, set_desync, destroy_buffer, the_attach, with_objects_found, enough_places, known_client, asked}
-use Rattle.rules.specs.Carry.{free_surface, spoken_for, crowded, full_callbacks, in_range, is_zero, siblings, place_in, unless_inert, carried}
+use Rattle.rules.specs.Carry.{spoken_for, crowded, full_callbacks, in_range, is_zero, siblings, place_in, unless_inert, carried}
 use Rattle.rules.specs.Call.{request}
 use Rattle.bounds.specs.Sound.{Sound}
 use Rattle.bounds.proofs.Steps.{LinkedAlike, mark_one, cache_one, edit_keeps}
@@ -27,6 +27,7 @@ use Rattle.bounds.proofs.Stations.{Accepts, then, then_unless, then_found, Found
 use Rattle.bounds.proofs.Kept.{Fine, fine_keeps, unchanged_fine}
 use Rattle.bounds.proofs.Made.{created, adopted_fine, placed_fine}
 use Rattle.bounds.proofs.Ended.{destroyed_fine, subsurface_ended_fine, buffer_ended_fine}
+use Rattle.rules.specs.Table.{free_place}
 
 -- the surfaces of get_subsurface are there
 abbrev Places : Model → Found → Type 0
@@ -81,7 +82,7 @@ edited m p f a h k c = fine_keeps 0 m (edit p f (start m)) a (omega arith) (edit
 positioned_fine : (m : Model) (o : Option ℕ) (x y : ℤ) → Sound m → Accepts Fine (unless_inert plain o (λ p. Ok (edit p (with_pending_position x y) (start m))) (start m))
 positioned_fine m None x y a = unchanged_fine m a
 positioned_fine m (Some p) x y a =
-    edited m p (with_pending_position x y) a (record { id = refl; parent = refl; object = refl; pending = refl; current = inl refl }) (omega arith) (omega arith)
+    edited m p (with_pending_position x y) a (record { parent = refl; object = refl; pending = refl; current = inl refl }) (omega arith) (omega arith)
 
 placed_in : (m : Model) (over : Bool) (c by : ℕ) (o : Option ℕ) → (surface_at m c).parent ≡ o → Sound m → Accepts Fine (place_in plain o over c by (start m))
 placed_in m over c by None e a = unchanged_fine m a
@@ -93,7 +94,7 @@ placed_beside m over (Some p) by a = placed_in m over p by (surface_at m p).pare
 
 synced : (m : Model) (o : Option ℕ) → Sound m → Accepts Fine (unless_inert plain o (λ p. Ok (edit p (with_sync true) (start m))) (start m))
 synced m None a = unchanged_fine m a
-synced m (Some p) a = edited m p (with_sync true) a (record { id = refl; parent = refl; object = refl; pending = refl; current = inl refl }) (omega arith) (omega arith)
+synced m (Some p) a = edited m p (with_sync true) a (record { parent = refl; object = refl; pending = refl; current = inl refl }) (omega arith) (omega arith)
 
 desynced : (m : Model) (o : Option ℕ) → Sound m → Accepts Fine (unless_inert plain o (λ p. Ok (desync plain p (start m))) (start m))
 desynced m None a = unchanged_fine m a
@@ -108,7 +109,7 @@ called m client k a e =
     }
 
 carried_fine : (m : Model) (q : Found) → Sound m → Places m q → Accepts Fine (carried plain q (start m))
-carried_fine m (create_surface client id) a h = then_found Fine (free_surface m client) _ _ λ p e. created m client id p a e
+carried_fine m (create_surface client id) a h = then_found Fine (free_place m.surfaces) _ _ λ p e. created m client id p a e
 carried_fine m (get_subsurface client id s q) a h =
     then_unless Fine (spoken_for (surface_at m s)) _ _ λ x.
     then_unless Fine (eqb q s || descends m q s) _ _ λ y.
@@ -118,7 +119,7 @@ carried_fine m (destroy_surface p) a h = destroyed_fine m p a
 carried_fine m (attach p v x y) a h =
     then_unless Fine (not (is_zero x)) _ _ λ _.
     then_unless Fine (not (is_zero y)) _ _ λ _.
-    edited m p (with_attach v) a (record { id = refl; parent = refl; object = refl; pending = refl; current = inl refl }) (omega arith) (omega arith)
+    edited m p (with_attach v) a (record { parent = refl; object = refl; pending = refl; current = inl refl }) (omega arith) (omega arith)
 carried_fine m damage a h = unchanged_fine m a
 carried_fine m (ask_frame client p id) a h =
     then_unless Fine (full_callbacks m client) _ _ λ e.

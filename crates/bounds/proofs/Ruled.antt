@@ -1,5 +1,5 @@
 -- Every call keeps a core sound, and sends at most 160 events.
-use Rattle.std.proofs.Common.{◌≡◌, ℕ, ◌+◌, ◌*◌, ◌<◌, ◌≤◌, Bool, true, false, not, ◌&&◌, List, [], ◌∷◌, ◌++◌, length, ℤ, Ok, Err, fold, filter, sym, refl, ap, ◌∙◌, subst, inl, arith, Some, pos}
+use Rattle.std.proofs.Common.{◌≡◌, ℕ, ◌+◌, ◌*◌, ◌<◌, ◌≤◌, Bool, true, false, not, ◌&&◌, List, [], ◌∷◌, ◌++◌, length, ℤ, Ok, Err, fold, filter, sym, refl, ap, ◌∙◌, subst, inl, arith, Some, pos, Option, option_map, unwrap_or, None}
 use Rattle.std.proofs.ByRecursion.{All-push}
 use Rattle.std.proofs.lemmas.List.{length_push}
 use Rattle.std.proofs.lemmas.List.Sums.{length-filter, count_by-le-length}
@@ -60,7 +60,7 @@ rooted : (m : Model) (p : ℕ) (x y : ℤ) → p < most → Sound m → Fine (ra
 rooted m p x y h a =
     let f : Surface → Surface = λ s. with_position x y (with_role Root s) in
     let b = fine_keeps 0 m (edit p f (start m)) a (omega arith)
-    (edit_keeps 0 p f (start m) (record { id = refl; parent = refl; object = refl; pending = refl; current = inl refl }) (omega arith) (omega arith)) in
+    (edit_keeps 0 p f (start m) (record { parent = refl; object = refl; pending = refl; current = inl refl }) (omega arith) (omega arith)) in
     record {
       sound = record { tree = b.sound.tree; spans = b.sound.spans; glass = b.sound.glass; roots = raised p m.roots h a.roots; callbacks = b.sound.callbacks };
       events = omega arith;
@@ -77,20 +77,25 @@ root_fine client id x y m a =
 paint_fine : (client id offset count memory : ℕ) (m : Model) → Sound m → Accepts Fine (paint client id offset count memory m)
 paint_fine client id offset count memory m a = then Fine (paintable client id offset count memory m) _ λ _ _. unchanged_fine m a
 
-marked_alike : (all : List Shown) (p : ℕ) (s : Surface) → LinkedAlike s (marked all p s)
-marked_alike all p s = record { id = refl; parent = refl; object = refl; pending = refl; current = inl refl }
+abbrev Alike : Option Surface → Option Surface → Type 0
+Alike o u = LinkedAlike (unwrap_or o no_surface) (unwrap_or u no_surface)
+
+marked_alike : (all : List Shown) (p : ℕ) (o : Option Surface) → Alike o (option_map (marked all p) o)
+marked_alike all p None = alike_same no_surface
+marked_alike all p (Some s) = record { parent = refl; object = refl; pending = refl; current = inl refl }
 
 abbrev marked_model : List Shown → Model → Model
-marked_model all m = with_surfaces (each_from (marked all) 0 m.surfaces) m
+marked_model all m = with_surfaces (each_from (λ p. option_map (marked all p)) 0 m.surfaces) m
 
 marked_sound : (all : List Shown) (ks : List Callback) (m : Model) → Sound m → length ks ≤ length m.callbacks → Sound (marked_model all (with_callbacks ks (with_waiting [] m)))
 marked_sound all ks m a h =
     let t = m.surfaces in
-    let u = each_from (marked all) 0 t in
+    let f : ℕ → Option Surface → Option Surface = λ p. option_map (marked all p) in
+    let u = each_from f 0 t in
     record {
-      tree = tree_alike t u m.objects (each_length (marked all) 0 t) (each_related no_surface LinkedAlike (alike_same no_surface) (marked all) (marked_alike all) 0 t) a.tree;
+      tree = tree_alike t u m.objects (each_length f 0 t) (each_related None Alike (alike_same no_surface) f (marked_alike all) 0 t) a.tree;
       spans = a.spans;
-      glass = omega (arith, sum_ones mark_one (λ s. one_most s.current.mark) u, each_length (marked all) 0 t, a.tree.orders.places);
+      glass = omega (arith, sum_ones mark_one (λ s. one_most s.current.mark) u, each_length f 0 t, a.tree.orders.places);
       roots = a.roots;
       callbacks = omega (arith, h, a.callbacks);
     }

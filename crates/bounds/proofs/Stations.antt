@@ -1,14 +1,12 @@
 -- Chains of checks: what holds of a result that passed them.
-use Rattle.std.proofs.Common.{◌≡◌, ℕ, ◌<◌, Bool, true, false, not, ◌&&◌, eqb, ◌≢◌, length, get_or, Some, None, Ok, Err, Option, Result, sym, refl, ◌∙◌, subst, arith}
-use Rattle.std.proofs.lemmas.Bool.{and_parts, eqb-true, eqb-false, not-true}
+use Rattle.std.proofs.Common.{◌≡◌, ℕ, ◌<◌, Bool, true, false, length, get_or, Some, None, Ok, Err, Option, Result, true≢false, sym, refl, subst, arith}
 use Rattle.list.specs.Place.{place}
 use Rattle.model.specs.declared.fault.Fault.{Fault}
-use Rattle.rules.specs.State.{Model, no_surface}
+use Rattle.rules.specs.State.{Model, Surface}
 use Rattle.rules.specs.Table.{some_and, place_with}
 use Rattle.rules.specs.Station.{◌>>=◌, refuse_if, or_refuse}
 use Rattle.rules.specs.Name.{object, surface, buffer, callback, bears, named_as, or_else, only_surface, the_surface}
 use Rattle.bounds.proofs.Tables.{found_at}
-use Rattle.bounds.proofs.Trees.{id_in}
 
 -- what holds of an accepted result
 abbrev pub Accepts : {B : Type 0} → (B → Type 0) → Result B Fault → Type 0
@@ -28,10 +26,16 @@ module _ {B : Type 0} (Q : B → Type 0) where
   then_found None f next h = tt
   then_found (Some a) f next h = h a refl
 
--- a surface by its name: its place in the table, and that it lives
+-- a surface by its name: its place in the table, and its record
 pub record FoundSurface (m : Model) (p : ℕ) : Type 0 where
   pub within : p < length m.surfaces
-  pub lives : id_in m.surfaces p ≢ 0
+  pub it : Surface
+  pub there : get_or m.surfaces p None ≡ Some it
+
+-- a test that something passes
+passed : {A : Type 0} (test : A → Bool) (o : Option A) → some_and test o ≡ true → (a : A) × (o ≡ Some a)
+passed test None e = absurd (true≢false (sym e))
+passed test (Some a) e = (a, refl)
 
 -- a name is that of a surface only if it was found among them
 surface_found : (word : ℕ) (x y z w : Option ℕ) (p : ℕ)
@@ -46,17 +50,15 @@ surface_found word None None None None p e = cc
 pub surface_named : (m : Model) (client word id p : ℕ) → the_surface m client word id ≡ Ok p → FoundSurface m p
 surface_named m client word id p e =
     let x = place_with (λ o. bears client id o.client o.id) m.objects in
-    let y = place (λ s. bears client id s.client s.id) m.surfaces in
+    let y = place_with (λ s. bears client id s.client s.id) m.surfaces in
     let z = place_with (λ b. some_and (bears client id b.client) b.id) m.buffers in
     let w = place (λ k. bears client id k.client k.id) m.callbacks in
-    let r = found_at (λ s. bears client id s.client s.id) no_surface 0 m.surfaces p (surface_found word x y z w p e) in
+    let test : Surface → Bool = λ s. bears client id s.client s.id in
+    let r = found_at (some_and test) None 0 m.surfaces p (surface_found word x y z w p e) in
     let here : r.0 ≡ p = let w = r.1 in omega arith in
-    let s = get_or m.surfaces r.0 no_surface in
-    let named_so = eqb s.id id && not (eqb id 0) in
-    let b = and_parts (eqb s.id id) (not (eqb id 0)) (and_parts (eqb s.client client) named_so r.3).1 in
-    let is : s.id ≡ id = eqb-true s.id id b.0 in
-    let not_zero : id ≢ 0 = eqb-false id 0 (not-true (eqb id 0) b.1) in
+    let s = passed test (get_or m.surfaces r.0 None) r.3 in
     record {
       within = subst (λ k. k < length m.surfaces) here r.2;
-      lives = subst (λ k. id_in m.surfaces k ≢ 0) here (λ z. not_zero (sym is ∙ z));
+      it = s.0;
+      there = subst (λ k. get_or m.surfaces k None ≡ Some s.0) here s.1;
     }

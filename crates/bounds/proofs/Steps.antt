@@ -1,5 +1,5 @@
 -- Steps that leave the tree as it is: what they keep, and how many events they send.
-use Rattle.std.proofs.Common.{◌≡◌, ℕ, ◌+◌, ◌≤◌, Bool, not, ◌⊎◌, List, [], ◌∷◌, length, Some, None, fold, sum_by, filter, Option, sym, refl, ap, ◌∙◌, subst, inl, inr, arith, length-set}
+use Rattle.std.proofs.Common.{◌≡◌, ℕ, ◌+◌, ◌≤◌, Bool, not, ◌⊎◌, List, [], ◌∷◌, length, Some, None, fold, sum_by, filter, Option, sym, refl, ap, ◌∙◌, subst, inl, inr, arith, length-set, option_map, get_or}
 use lib.ListN.{length-map}
 use Rattle.std.proofs.lemmas.List.Filters.{length-filter_both}
 use Rattle.std.proofs.lemmas.List.{length_push}
@@ -14,26 +14,25 @@ use Rattle.rules.specs.Run.{Run, plain, at, edit, send, release, delete_id, send
 use Rattle.rules.specs.Hold.{end_hold, end_cached, end_waiting}
 use Rattle.rules.specs.Callback.{advance, moved, end_callbacks}
 use Rattle.bounds.specs.Sound.{one, on_glass}
-use Rattle.bounds.proofs.Tables.{put_related, put_sum}
+use Rattle.bounds.proofs.Tables.{changed_related, changed_sum}
+use Rattle.rules.specs.Table.{records}
 
 abbrev pub Plain : Type 0
 Plain = Run (List Event)
 
 -- a surface whose links stay; its pending order may have become current
 pub record LinkedAlike (s t : Surface) : Type 0 where
-  pub id : t.id ≡ s.id
   pub parent : t.parent ≡ s.parent
   pub object : t.object ≡ s.object
   pub pending : t.pending.order ≡ s.pending.order
   pub current : (t.current.order ≡ s.current.order) ⊎ (t.current.order ≡ s.pending.order)
 
 pub alike_same : (s : Surface) → LinkedAlike s s
-alike_same s = record { id = refl; parent = refl; object = refl; pending = refl; current = inl refl }
+alike_same s = record { parent = refl; object = refl; pending = refl; current = inl refl }
 
 pub alike_then : (s t u : Surface) → LinkedAlike s t → LinkedAlike t u → LinkedAlike s u
 alike_then s t u a b =
     record {
-      id = b.id ∙ a.id;
       parent = b.parent ∙ a.parent;
       object = b.object ∙ a.object;
       pending = b.pending ∙ a.pending;
@@ -51,8 +50,8 @@ cached_most Nothing = omega arith
 cached_most Null = omega arith
 cached_most (Held b) = omega arith
 
-abbrev pub cached_in : List Surface → ℕ
-cached_in t = sum_by (λ s. cached_one s.cached) t
+abbrev pub cached_in : List (Option Surface) → ℕ
+cached_in t = sum_by (λ s. cached_one s.cached) (records t)
 
 -- what a run has spent of its events, or may spend yet by applying what is cached
 abbrev pub spent : Plain → ℕ
@@ -113,15 +112,15 @@ pub edit_keeps : (n p : ℕ) (f : Surface → Surface) (r : Plain) → LinkedAli
     → cache_one (f (at r p)) ≤ cache_one (at r p) + n → Keeps n r (edit p f r)
 edit_keeps n p f r h m c =
     record {
-      places = length-set r.model.surfaces p (f (at r p));
-      surfaces = put_related no_surface LinkedAlike alike_same r.model.surfaces p (f (at r p)) h;
+      places = length-set r.model.surfaces p (option_map f (get_or r.model.surfaces p None));
+      surfaces = changed_related no_surface LinkedAlike alike_same r.model.surfaces p f h;
       buffers = refl;
       objects = refl;
       size = refl;
       roots = refl;
       callbacks = refl;
-      glass = omega (arith, put_sum no_surface mark_one refl r.model.surfaces p (f (at r p)), m);
-      spends = omega (arith, put_sum no_surface cache_one refl r.model.surfaces p (f (at r p)), c);
+      glass = omega (arith, changed_sum no_surface mark_one refl r.model.surfaces p f, m);
+      spends = omega (arith, changed_sum no_surface cache_one refl r.model.surfaces p f, c);
     }
 
 -- an event of an object that may have ended

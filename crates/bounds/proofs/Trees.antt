@@ -1,5 +1,5 @@
 -- What keeps the tree of surfaces and its links.
-use Rattle.std.proofs.Common.{◌≡◌, ℕ, ◌≢◌, ◌⊎◌, List, length, get_or, Some, None, Option, sym, ◌∙◌, subst, inl, inr, arith, ap}
+use Rattle.std.proofs.Common.{◌≡◌, ℕ, ◌≢◌, ◌⊎◌, List, length, Some, None, Option, sym, ◌∙◌, subst, inl, inr, arith, ap}
 use Rattle.std.proofs.lemmas.Bool.{cases_eq}
 use Rattle.std.proofs.lemmas.Option.{same_Some}
 use Rattle.rules.specs.declared.object.Object.{Object}
@@ -11,6 +11,7 @@ use Rattle.bounds.specs.Reached.{SameOrders}
 use Rattle.bounds.specs.Sound.{Orders, Tree, pending_in, current_in, object_in, kind_in}
 use Rattle.bounds.proofs.Forests.{pruned}
 use Rattle.bounds.proofs.Steps.{LinkedAlike}
+use Rattle.rules.specs.Table.{record_at}
 
 pub some_none : {A : Type 0} (a : A) → ◌≡◌ {A = Option A} (Some a) None → ⊥
 some_none a e = let z : ◌≡◌ {A = ℕ} 0 1 = cc in omega arith
@@ -18,11 +19,8 @@ some_none a e = let z : ◌≡◌ {A = ℕ} 0 1 = cc in omega arith
 pub some_same : (a b : ℕ) → ◌≡◌ {A = Option ℕ} (Some a) (Some b) → a ≡ b
 some_same a b e = cc
 
-abbrev pub id_in : List Surface → ℕ → ℕ
-id_in t p = (get_or t p no_surface).id
-
 -- parents and pending orders that stay, where a pending order may have become current
-pub orders_stay : (t u : List Surface) → length u ≡ length t → ((q : ℕ) → parent_in u q ≡ parent_in t q) → ((q : ℕ) → pending_in u q ≡ pending_in t q)
+pub orders_stay : (t u : List (Option Surface)) → length u ≡ length t → ((q : ℕ) → parent_in u q ≡ parent_in t q) → ((q : ℕ) → pending_in u q ≡ pending_in t q)
     → ((q : ℕ) → (current_in u q ≡ current_in t q) ⊎ (current_in u q ≡ pending_in t q)) → Orders t → Orders u
 orders_stay t u e parents pending current a =
     record {
@@ -42,23 +40,21 @@ orders_stay t u e parents pending current a =
 pub orders_same : (m n : Model) → SameOrders m n → Orders m.surfaces → Orders n.surfaces
 orders_same m n h a = orders_stay m.surfaces n.surfaces h.places h.parents h.pending (λ q. inl (h.current q)) a
 
-pub orders_alike : (t u : List Surface) → length u ≡ length t → ((q : ℕ) → LinkedAlike (get_or t q no_surface) (get_or u q no_surface)) → Orders t → Orders u
+pub orders_alike : (t u : List (Option Surface)) → length u ≡ length t → ((q : ℕ) → LinkedAlike (record_at no_surface t q) (record_at no_surface u q)) → Orders t → Orders u
 orders_alike t u e h a = orders_stay t u e (λ q. (h q).parent) (λ q. (h q).pending) (λ q. (h q).current) a
 
-pub tree_alike : (t u : List Surface) (os : List (Option Object)) → length u ≡ length t → ((q : ℕ) → LinkedAlike (get_or t q no_surface) (get_or u q no_surface)) → Tree t os → Tree u os
+pub tree_alike : (t u : List (Option Surface)) (os : List (Option Object)) → length u ≡ length t → ((q : ℕ) → LinkedAlike (record_at no_surface t q) (record_at no_surface u q)) → Tree t os → Tree u os
 tree_alike t u os e h a =
     record {
       orders = orders_alike t u e h a.orders;
       linked = λ p q k n. a.linked p q (sym (h p).parent ∙ k) (sym (h p).object ∙ n);
       inert = λ k p z. (h p).parent ∙ a.inert k p z;
       known = λ k p z. (h p).object ∙ a.known k p z;
-      free = λ p z. (h p).object ∙ a.free p (sym (h p).id ∙ z);
     }
 
 -- the surface p has lost its parent: it left the parent's orders, and its sub-surface object is inert
-pub record Cut (p : ℕ) (t u : List Surface) (os ps : List (Option Object)) : Type 0 where
+pub record Cut (p : ℕ) (t u : List (Option Surface)) (os ps : List (Option Object)) : Type 0 where
   pub places : length u ≡ length t
-  pub id : (x : ℕ) → id_in u x ≡ id_in t x
   pub object : (x : ℕ) → object_in u x ≡ object_in t x
   pub parent : (x : ℕ) → x ≢ p → parent_in u x ≡ parent_in t x
   pub gone : parent_in u p ≡ None
@@ -67,7 +63,7 @@ pub record Cut (p : ℕ) (t u : List Surface) (os ps : List (Option Object)) : T
   pub once : (x : ℕ) → Once (pending_in t x) → Once (pending_in u x)
   pub kinds : (k : ℕ) → (kind_in ps k ≡ kind_in os k) ⊎ ((kind_in ps k ≡ InertSubsurface (Some p)) × (object_in t p ≡ Some k))
 
-module _ (p : ℕ) (t u : List Surface) (os ps : List (Option Object)) (h : Cut p t u os ps) (a : Tree t os) where
+module _ (p : ℕ) (t u : List (Option Surface)) (os ps : List (Option Object)) (h : Cut p t u os ps) (a : Tree t os) where
   -- parents stay, but for p
   parents_cut : (x : ℕ) → (parent_in u x ≡ parent_in t x) ⊎ (parent_in u x ≡ None)
   parents_cut x = elim (cases_eq x p) [ inl e ↦ inr (subst (λ y. parent_in u y ≡ None) (sym e) h.gone) | inr n ↦ inl (h.parent x n) ]
@@ -107,5 +103,4 @@ module _ (p : ℕ) (t u : List Surface) (os ps : List (Option Object)) (h : Cut 
         linked = λ x q e n. a.linked x q (parent_before x q e) (sym (h.object x) ∙ n);
         inert = inert_cut;
         known = λ k x e. h.object x ∙ known_cut k x e;
-        free = λ x e. h.object x ∙ a.free x (sym (h.id x) ∙ e);
       }

@@ -1,5 +1,5 @@
 -- Unlink: what it does to the tree, and how many events it sends.
-use Rattle.std.proofs.Common.{◌≡◌, ℕ, ◌+◌, ◌≤◌, Bool, not, eqb, ◌≢◌, ◌⊎◌, List, [], ◌∷◌, length, get_or, set, Some, None, fold, sum_by, filter, Option, sym, refl, ap, ◌∙◌, subst, inl, inr, arith, length-set, get_or-set_other}
+use Rattle.std.proofs.Common.{◌≡◌, ℕ, ◌+◌, ◌≤◌, Bool, not, eqb, ◌≢◌, ◌⊎◌, List, [], ◌∷◌, length, get_or, Some, None, fold, sum_by, filter, Option, option_map, sym, refl, ap, ◌∙◌, subst, inl, inr, arith, length-set}
 use Rattle.std.proofs.lemmas.List.Sums.{length-filter, count_by-le-length}
 use Rattle.rules.specs.declared.attach.Attach.TheVariants.{Nothing}
 use Rattle.rules.specs.declared.callback.Callback.{Callback}
@@ -11,12 +11,12 @@ use Rattle.rules.specs.Setters.{with_parent, with_cached, with_order, with_pendi
 use Rattle.rules.specs.Run.{plain, at, edit, in_model}
 use Rattle.rules.specs.Hold.{end_cached}
 use Rattle.rules.specs.Callback.{end_callbacks, stands}
-use Rattle.rules.specs.Table.{changed, without}
+use Rattle.rules.specs.Table.{changed, without, record_at, records}
 use Rattle.rules.specs.Unlink.{as_inert, made_inert, leave, unlink_from, unlink, unlink_children}
 use Rattle.bounds.specs.Forest.{parent_in}
 use Rattle.bounds.specs.Member.{Member, Once}
 use Rattle.bounds.specs.Sound.{Tree, pending_in, current_in, object_in, kind_in, one, on_glass}
-use Rattle.bounds.proofs.Tables.{put_related, put_here, changed_cases, put_sum, without_member}
+use Rattle.bounds.proofs.Tables.{changed_related, changed_here, changed_other, changed_cases, changed_sum, without_member}
 use Rattle.bounds.proofs.Pigeons.{once_kept}
 use Rattle.bounds.proofs.Steps.{Plain, mark_one, cached_most, end_cached_model, end_cached_events, end_callbacks_model, end_callbacks_events}
 use Rattle.bounds.proofs.Trees.{some_same, tree_cut}
@@ -28,54 +28,53 @@ leaving p s = with_pending_order (without p s.pending.order) (with_order (withou
 abbrev pub parting : Surface → Surface
 parting s = with_parent None (with_cached Nothing s)
 
-abbrev pub left : ℕ → ℕ → List Surface → List Surface
-left q p t = set t q (leaving p (get_or t q no_surface))
+abbrev pub left : ℕ → ℕ → List (Option Surface) → List (Option Surface)
+left q p t = changed q (leaving p) t
 
-abbrev pub parted : ℕ → ℕ → List Surface → List Surface
-parted q p t = set (left q p t) p (parting (get_or (left q p t) p no_surface))
+abbrev pub parted : ℕ → ℕ → List (Option Surface) → List (Option Surface)
+parted q p t = changed p parting (left q p t)
 
 -- what leaving and parting keep of a surface
 record KeptLinks (s t : Surface) : Type 0 where
-  id : t.id ≡ s.id
   object : t.object ≡ s.object
   pending : (c : ℕ) → Member c t.pending.order → Member c s.pending.order
   current : (c : ℕ) → Member c t.current.order → Member c s.current.order
   once : Once s.pending.order → Once t.pending.order
 
 kept_same : (s : Surface) → KeptLinks s s
-kept_same s = record { id = refl; object = refl; pending = λ c m. m; current = λ c m. m; once = λ o. o }
+kept_same s = record { object = refl; pending = λ c m. m; current = λ c m. m; once = λ o. o }
 
-module _ (q p : ℕ) (t : List Surface) where
-  kept_left : (x : ℕ) → KeptLinks (get_or t x no_surface) (get_or (left q p t) x no_surface)
+module _ (q p : ℕ) (t : List (Option Surface)) where
+  kept_left : (x : ℕ) → KeptLinks (record_at no_surface t x) (record_at no_surface (left q p t) x)
   kept_left =
-      put_related no_surface KeptLinks kept_same t q (leaving p (get_or t q no_surface))
-      (record { id = refl; object = refl; pending = λ c m. (without_member p _ c m).0; current = λ c m. (without_member p _ c m).0; once = once_kept (λ q. not (eqb q p)) _ })
+      changed_related no_surface KeptLinks kept_same t q (leaving p)
+      (record { object = refl; pending = λ c m. (without_member p _ c m).0; current = λ c m. (without_member p _ c m).0; once = once_kept (λ q. not (eqb q p)) _ })
 
-  kept_parted : (x : ℕ) → KeptLinks (get_or (left q p t) x no_surface) (get_or (parted q p t) x no_surface)
-  kept_parted = put_related no_surface KeptLinks kept_same (left q p t) p (parting (get_or (left q p t) p no_surface))
-      (record { id = refl; object = refl; pending = λ c m. m; current = λ c m. m; once = λ o. o })
+  kept_parted : (x : ℕ) → KeptLinks (record_at no_surface (left q p t) x) (record_at no_surface (parted q p t) x)
+  kept_parted = changed_related no_surface KeptLinks kept_same (left q p t) p parting
+      (record { object = refl; pending = λ c m. m; current = λ c m. m; once = λ o. o })
 
   parent_left : (x : ℕ) → parent_in (left q p t) x ≡ parent_in t x
-  parent_left = put_related no_surface (λ (s v : Surface). v.parent ≡ s.parent) (λ s. refl) t q (leaving p (get_or t q no_surface)) refl
+  parent_left = changed_related no_surface (λ (s v : Surface). v.parent ≡ s.parent) (λ s. refl) t q (leaving p) refl
 
   parent_parted : (x : ℕ) → x ≢ p → parent_in (parted q p t) x ≡ parent_in t x
-  parent_parted x n = ap (λ (s : Surface). s.parent) (get_or-set_other (left q p t) p x (parting (get_or (left q p t) p no_surface)) no_surface n) ∙ parent_left x
+  parent_parted x n = ap (λ (s : Surface). s.parent) (changed_other no_surface (left q p t) p parting x n) ∙ parent_left x
 
   parent_gone : parent_in (parted q p t) p ≡ None
-  parent_gone = put_here no_surface (λ (s : Surface). s.parent ≡ None) (left q p t) p (parting (get_or (left q p t) p no_surface)) refl refl
+  parent_gone = changed_here no_surface (λ (s : Surface). s.parent ≡ None) (left q p t) p parting (λ s. refl) refl
 
   -- p is in no order of q
   not_pending : (c : ℕ) → Member c (pending_in (parted q p t) q) → c ≢ p
   not_pending c m =
-      put_here no_surface (λ (s : Surface). Member c s.pending.order → c ≢ p) t q (leaving p (get_or t q no_surface)) (λ k. (without_member p _ c k).1) (λ k. absurd k) ((kept_parted q).pending c m)
+      changed_here no_surface (λ (s : Surface). Member c s.pending.order → c ≢ p) t q (leaving p) (λ s k. (without_member p _ c k).1) (λ k. absurd k) ((kept_parted q).pending c m)
 
   not_current : (c : ℕ) → Member c (current_in (parted q p t) q) → c ≢ p
   not_current c m =
-      put_here no_surface (λ (s : Surface). Member c s.current.order → c ≢ p) t q (leaving p (get_or t q no_surface)) (λ k. (without_member p _ c k).1) (λ k. absurd k) ((kept_parted q).current c m)
+      changed_here no_surface (λ (s : Surface). Member c s.current.order → c ≢ p) t q (leaving p) (λ s k. (without_member p _ c k).1) (λ k. absurd k) ((kept_parted q).current c m)
 
   places_parted : length (parted q p t) ≡ length t
   places_parted =
-      length-set (left q p t) p (parting (get_or (left q p t) p no_surface)) ∙ length-set t q (leaving p (get_or t q no_surface))
+      length-set (left q p t) p (option_map parting (get_or (left q p t) p None)) ∙ length-set t q (option_map (leaving p) (get_or t q None))
 
 -- the object that becomes inert
 abbrev inert_objects : Option ℕ → ℕ → List (Option Object) → List (Option Object)
@@ -91,12 +90,11 @@ inert_kinds (Some j) p os k =
       | inr h ↦ inl (ap (λ (v : Object). v.kind) h)
     ]
 
-unlinked_tree : (q p : ℕ) (t : List Surface) (os : List (Option Object)) → parent_in t p ≡ Some q → Tree t os → Tree (parted q p t) (inert_objects (object_in t p) p os)
+unlinked_tree : (q p : ℕ) (t : List (Option Surface)) (os : List (Option Object)) → parent_in t p ≡ Some q → Tree t os → Tree (parted q p t) (inert_objects (object_in t p) p os)
 unlinked_tree q p t os e a =
     tree_cut p t (parted q p t) os (inert_objects (object_in t p) p os)
     (record {
       places = places_parted q p t;
-      id = λ x. (kept_parted q p t x).id ∙ (kept_left q p t x).id;
       object = λ x. (kept_parted q p t x).object ∙ (kept_left q p t x).object;
       parent = parent_parted q p t;
       gone = parent_gone q p t;
@@ -116,8 +114,8 @@ unlinked_tree q p t os e a =
 abbrev linked_one : Surface → ℕ
 linked_one s = one s.parent
 
-abbrev pub linked_in : List Surface → ℕ
-linked_in t = sum_by linked_one t
+abbrev pub linked_in : List (Option Surface) → ℕ
+linked_in t = sum_by linked_one (records t)
 
 -- what a run has spent of its events, or may spend yet by unlinking children and ending callbacks
 abbrev pub owed : Plain → ℕ
@@ -182,7 +180,7 @@ made_inert_surfaces (Some k) s m = refl
 
 parting_surfaces : (q p : ℕ) (r : Plain) → (parting_run q p r).model.surfaces ≡ parted q p r.model.surfaces
 parting_surfaces q p r =
-    ap (λ (t : List Surface). set t p (parting (get_or t p no_surface))) (made_inert_surfaces (at r p).object (Some p) (leave plain q p r).model)
+    ap (λ (t : List (Option Surface)). changed p parting t) (made_inert_surfaces (at r p).object (Some p) (leave plain q p r).model)
 
 -- a child less pays for the event of its cached hold
 record Parts (r t : Plain) : Type 0 where
@@ -193,13 +191,13 @@ record Parts (r t : Plain) : Type 0 where
   glass : on_glass t.model.surfaces t.model.waiting ≤ on_glass r.model.surfaces r.model.waiting
   owes : owed t + 1 ≤ owed r
 
-marks_parted : (q p : ℕ) (t : List Surface) → sum_by mark_one (parted q p t) ≤ sum_by mark_one t
+marks_parted : (q p : ℕ) (t : List (Option Surface)) → sum_by mark_one (records (parted q p t)) ≤ sum_by mark_one (records t)
 marks_parted q p t =
-    omega (arith, put_sum no_surface mark_one refl t q (leaving p (get_or t q no_surface)), put_sum no_surface mark_one refl (left q p t) p (parting (get_or (left q p t) p no_surface)))
+    omega (arith, changed_sum no_surface mark_one refl t q (leaving p), changed_sum no_surface mark_one refl (left q p t) p parting)
 
-links_parted : (q p : ℕ) (t : List Surface) → parent_in t p ≡ Some q → linked_in (parted q p t) + 1 ≤ linked_in t
+links_parted : (q p : ℕ) (t : List (Option Surface)) → parent_in t p ≡ Some q → linked_in (parted q p t) + 1 ≤ linked_in t
 links_parted q p t e =
-    omega (arith, put_sum no_surface linked_one refl t q (leaving p (get_or t q no_surface)), put_sum no_surface linked_one refl (left q p t) p (parting (get_or (left q p t) p no_surface)), ap one (parent_left q p t p ∙ e))
+    omega (arith, changed_sum no_surface linked_one refl t q (leaving p), changed_sum no_surface linked_one refl (left q p t) p parting, ap one (parent_left q p t p ∙ e))
 
 parting_parts : (q p : ℕ) (o : Option ℕ) (r : Plain) → (at r p).parent ≡ Some q → Parts r (edit p parting (in_model (made_inert o (Some p)) (leave plain q p r)))
 parting_parts q p None r e =
@@ -242,7 +240,7 @@ parting_tree q p (Some j) r e k a =
 
 -- a run with the same surfaces and objects
 pub tree_same : (m n : Model) → n.surfaces ≡ m.surfaces → n.objects ≡ m.objects → Tree m.surfaces m.objects → Tree n.surfaces n.objects
-tree_same m n e k a = subst (λ (os : List (Option Object)). Tree n.surfaces os) (sym k) (subst (λ (t : List Surface). Tree t m.objects) (sym e) a)
+tree_same m n e k a = subst (λ (os : List (Option Object)). Tree n.surfaces os) (sym k) (subst (λ (t : List (Option Surface)). Tree t m.objects) (sym e) a)
 
 unlink_from_tree : (o : Option ℕ) (p : ℕ) (r : Plain) → (at r p).parent ≡ o → TreeOf r → TreeOf (unlink_from plain o p r)
 unlink_from_tree None p r e a = a
@@ -269,7 +267,7 @@ unlinked_surfaces q p r =
 -- an unlinked surface has no parent
 unlink_from_gone : (o : Option ℕ) (p : ℕ) (r : Plain) → (at r p).parent ≡ o → (at (unlink_from plain o p r) p).parent ≡ None
 unlink_from_gone None p r e = e
-unlink_from_gone (Some q) p r e = ap (λ (x : List Surface). parent_in x p) (unlinked_surfaces q p r) ∙ parent_gone q p r.model.surfaces
+unlink_from_gone (Some q) p r e = ap (λ (x : List (Option Surface)). parent_in x p) (unlinked_surfaces q p r) ∙ parent_gone q p r.model.surfaces
 
 pub unlink_gone : (p : ℕ) (r : Plain) → (at (unlink plain p r) p).parent ≡ None
 unfolding unlink
@@ -280,7 +278,7 @@ unlink_from_object : (o : Option ℕ) (p : ℕ) (r : Plain) → (at r p).parent 
 unlink_from_object None p r e = refl
 unlink_from_object (Some q) p r e =
     let t = r.model.surfaces in
-    ap (λ (x : List Surface). object_in x p) (unlinked_surfaces q p r) ∙ ((kept_parted q p t p).object ∙ (kept_left q p t p).object)
+    ap (λ (x : List (Option Surface)). object_in x p) (unlinked_surfaces q p r) ∙ ((kept_parted q p t p).object ∙ (kept_left q p t p).object)
 
 pub unlink_object : (p : ℕ) (r : Plain) → (at (unlink plain p r) p).object ≡ (at r p).object
 unfolding unlink

@@ -6,24 +6,24 @@ use Rattle.rules.specs.declared.object.Object.{Object}
 use Rattle.rules.specs.declared.object.ObjectKind.{ObjectKind}
 use Rattle.rules.specs.declared.object.ObjectKind.TheVariants.{InertSubsurface}
 use Rattle.rules.specs.State.{Model, Surface, Waiting, most, no_surface, no_object, buffer_span, surface_of}
-use Rattle.rules.specs.Table.{record_at}
+use Rattle.rules.specs.Table.{record_at, records}
 use Rattle.bounds.specs.Forest.{Forest, parent_in}
 use Rattle.bounds.specs.Member.{Member, Once}
 
-abbrev pub pending_in : List Surface → ℕ → List ℕ
-pending_in t p = (slice_index_or t p no_surface).pending.order
+abbrev pub pending_in : List (Option Surface) → ℕ → List ℕ
+pending_in t p = (record_at no_surface t p).pending.order
 
-abbrev pub current_in : List Surface → ℕ → List ℕ
-current_in t p = (slice_index_or t p no_surface).current.order
+abbrev pub current_in : List (Option Surface) → ℕ → List ℕ
+current_in t p = (record_at no_surface t p).current.order
 
-abbrev pub object_in : List Surface → ℕ → Option ℕ
-object_in t p = (slice_index_or t p no_surface).object
+abbrev pub object_in : List (Option Surface) → ℕ → Option ℕ
+object_in t p = (record_at no_surface t p).object
 
 abbrev pub kind_in : List (Option Object) → ℕ → ObjectKind
 kind_in os k = (record_at no_object os k).kind
 
 -- the parents are a forest; an order of q has q itself and children of q, and a pending order none of them twice
-pub record Orders (t : List Surface) : Type 0 where
+pub record Orders (t : List (Option Surface)) : Type 0 where
   pub places : length t ≡ most
   pub forest : Forest t
   pub pending : (q c : ℕ) → Member c (pending_in t q) → (c ≡ q) ⊎ (parent_in t c ≡ Some q)
@@ -31,7 +31,7 @@ pub record Orders (t : List Surface) : Type 0 where
   pub once : (q : ℕ) → Once (pending_in t q)
 
 -- the surfaces, and the sub-surface objects that link them
-pub record Tree (t : List Surface) (os : List (Option Object)) : Type 0 where
+pub record Tree (t : List (Option Surface)) (os : List (Option Object)) : Type 0 where
   pub orders : Orders t
   -- a child has a sub-surface object
   pub linked : (p q : ℕ) → parent_in t p ≡ Some q → object_in t p ≢ None
@@ -39,7 +39,6 @@ pub record Tree (t : List Surface) (os : List (Option Object)) : Type 0 where
   pub inert : (k p : ℕ) → kind_in os k ≡ InertSubsurface (Some p) → parent_in t p ≡ None
   -- the surface of a sub-surface object, inert or not, knows it
   pub known : (k p : ℕ) → surface_of (kind_in os k) ≡ Some p → object_in t p ≡ Some k
-  pub free : (p : ℕ) → (slice_index_or t p no_surface).id ≡ 0 → object_in t p ≡ None
 
 -- the spans of buffer records lie inside the pixel memory, and none meets another
 pub record Spans (size : ℕ) (bs : List (Option Buffer)) : Type 0 where
@@ -53,8 +52,8 @@ one None = 0
 one (Some x) = 1
 
 -- how many holds are on the glass: current ones that have a mark, and waiting ones
-abbrev pub on_glass : List Surface → List Waiting → ℕ
-on_glass t ws = sum_by (λ s. one s.current.mark) t + length ws
+abbrev pub on_glass : List (Option Surface) → List Waiting → ℕ
+on_glass t ws = sum_by (λ s. one s.current.mark) (records t) + length ws
 
 -- a surface is raised once
 pub record Roots (ps : List ℕ) : Type 0 where

@@ -1,5 +1,5 @@
 -- The six calls: what each answers, which events it sends, and what the core knows then.
-use Rattle.std.specs.Prelude.{ℕ, ◌+◌, Bool, true, false, cond, not, ◌&&◌, ◌||◌, List, [], ◌∷◌, ◌++◌, length, take, drop, ℤ, pos, Some, Ok, Err, fold, filter, Result, ◌==◌, nat_eq, nat_lt}
+use Rattle.std.specs.Prelude.{ℕ, ◌+◌, Bool, true, false, cond, not, ◌&&◌, ◌||◌, List, [], ◌∷◌, ◌++◌, length, take, drop, ℤ, pos, Some, Ok, Err, fold, filter, option_map, Result, ◌==◌, nat_eq, nat_lt}
 use Rattle.std.specs.List.{list_any}
 use Rattle.list.specs.Place.{place}
 use Rattle.model.specs.declared.element.Element.{Element}
@@ -105,7 +105,7 @@ abbrev pub marked : List Shown → ℕ → Surface → Surface
 marked all p s = with_mark (place (λ t. nat_eq t.surface p) all) s
 
 abbrev pub mark : {E : Type 0} → List Shown → Run E → Run E
-mark all r = in_model (λ m. with_surfaces (each (marked all) m.surfaces) m) r
+mark all r = in_model (λ m. with_surfaces (each (λ p. option_map (marked all p)) m.surfaces) m) r
 
 -- switch, on an output that is on or not; of a presenter the core knows its size
 abbrev pub go_dark : {E : Type 0} → Grow E → Run E → Run E

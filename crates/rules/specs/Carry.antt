@@ -1,6 +1,6 @@
 -- Requests carried out: stations 5 to 7, and what is done.
-use Rattle.std.specs.Prelude.{ℕ, Bool, true, false, cond, not, ◌&&◌, ◌||◌, eqb, List, [], ◌∷◌, ◌++◌, length, ℤ, pos, negsuc, is_some, Some, None, Ok, Option, Result, ◌==◌, int_le, nat_le}
-use Rattle.list.specs.Place.{place, any}
+use Rattle.std.specs.Prelude.{ℕ, Bool, true, false, cond, not, ◌&&◌, ◌||◌, eqb, List, [], ◌∷◌, ◌++◌, length, map, ℤ, pos, negsuc, is_some, Some, None, Ok, Option, option_map, Result, ◌==◌, int_le, nat_le}
+use Rattle.list.specs.Place.{any}
 use Rattle.model.specs.declared.fault.Fault.{Fault}
 use Rattle.model.specs.Fault.{fault}
 use Rattle.rules.specs.declared.attach.Attach.{Attach}
@@ -11,18 +11,14 @@ use Rattle.rules.specs.declared.role.Role.{Role}
 use Rattle.rules.specs.declared.role.Role.TheVariants.{Plain, Root, Sub}
 use Rattle.rules.specs.declared.stage.Stage.TheVariants.{Pending}
 use Rattle.rules.specs.State.{surface_of, Model, Surface, surface_at, buffer_at, object_at, object_place}
-use Rattle.rules.specs.Setters.{with_role, with_parent, with_object, with_sync, with_attach, with_pending_position, with_pending_order, with_surfaces, with_callbacks, edit_buffer, put_object, free_object}
+use Rattle.rules.specs.Setters.{with_role, with_parent, with_object, with_sync, with_attach, with_pending_position, with_pending_order, with_surfaces, with_callbacks, put_surface, edit_buffer, put_object, free_object}
 use Rattle.rules.specs.Run.{Grow, Run, in_model, at, edit, send, send_living, delete_id}
 use Rattle.rules.specs.Apply.{commit, desync}
 use Rattle.rules.specs.Unlink.{unlink, destroy}
-use Rattle.rules.specs.Table.{each, without}
+use Rattle.rules.specs.Table.{free_place, without}
 use Rattle.rules.specs.Tree.{descends}
 use Rattle.rules.specs.Station.{◌>>=◌, refuse_if, or_refuse}
 use Rattle.rules.specs.Ask.{Found, create_surface, get_subsurface, destroy_surface, attach, damage, ask_frame, commit_surface, destroy_subsurface, set_position, place_beside, set_sync, set_desync, destroy_buffer, linked}
-
--- a free place for a surface of a client: the lowest
-abbrev pub free_surface : Model → ℕ → Option ℕ
-free_surface m client = place (λ s. eqb s.id 0) m.surfaces
 
 -- a surface at place p that was just made
 abbrev pub new_surface : ℕ → ℕ → ℕ → Surface
@@ -82,8 +78,8 @@ is_held b Null = false
 is_held b (Held c) = c == b
 
 -- a pending attach of buffer b becomes null
-abbrev pub detached : ℕ → ℕ → Surface → Surface
-detached b p s = cond (is_held b s.pending.attach) (with_attach Null s) s
+abbrev pub detached : ℕ → Surface → Surface
+detached b s = cond (is_held b s.pending.attach) (with_attach Null s) s
 
 -- a buffer record whose object has ended
 abbrev pub nameless : Buffer → Buffer
@@ -130,13 +126,13 @@ module _ {E : Type 0} (g : Grow E) where
   end_buffer b r =
       let f = buffer_at r.model b in
       send_living g (delete_id f.client) f.id
-      (in_model (λ m. edit_buffer b nameless (with_surfaces (each (detached b) m.surfaces) m)) r)
+      (in_model (λ m. edit_buffer b nameless (with_surfaces (map (option_map (detached b)) m.surfaces) m)) r)
 
   -- stations 5 to 7 of a request, and what it does
   abbrev pub carried : Found → Run E → Result (Run E) Fault
   carried (create_surface client id) r =
-      or_refuse (free_surface r.model client) (fault 14 7 2) >>= λ p.
-      Ok (edit p (λ _. new_surface client id p) r)
+      or_refuse (free_place r.model.surfaces) (fault 14 7 2) >>= λ p.
+      Ok (in_model (put_surface p (new_surface client id p)) r)
   carried (get_subsurface client id s q) r =
       refuse_if (spoken_for (at r s)) (fault 11 6 3) >>= λ _.
       refuse_if (q == s || descends r.model q s) (fault 12 6 4) >>= λ _.

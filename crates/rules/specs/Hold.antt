@@ -6,7 +6,7 @@ use Rattle.rules.specs.declared.buffer.Buffer.{Buffer}
 use Rattle.rules.specs.State.{Model, buffer_at}
 use Rattle.rules.specs.Setters.{with_waiting, with_buffers}
 use Rattle.rules.specs.Run.{Grow, Run, in_model, send_living, release}
-use Rattle.rules.specs.Table.{each}
+use Rattle.rules.specs.Table.{records, each}
 
 module _ {E : Type 0} (g : Grow E) where
   -- a hold of buffer b ends: a release, if the buffer's object lives
@@ -45,7 +45,7 @@ of_buffer b (Some c) = cond (c == b) 1 0
 -- how many holds of buffer b stand: cached, current and waiting
 abbrev pub holds : Model → ℕ → ℕ
 holds m b =
-    sum_by (λ s. of_buffer b (held s.cached) + of_buffer b s.current.hold) m.surfaces + sum_by (λ w. of_buffer b (Some w.buffer)) m.waiting
+    sum_by (λ s. of_buffer b (held s.cached) + of_buffer b s.current.hold) (records m.surfaces) + sum_by (λ w. of_buffer b (Some w.buffer)) m.waiting
 
 abbrev pub busy : Model → ℕ → Bool
 busy m b = not (holds m b == 0)

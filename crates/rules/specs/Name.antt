@@ -1,5 +1,5 @@
 -- Objects by client and id.
-use Rattle.std.specs.Prelude.{ℕ, Bool, not, ◌&&◌, ◌||◌, is_some, Some, None, Ok, Err, Option, Result, ◌==◌, nat_lt}
+use Rattle.std.specs.Prelude.{ℕ, Bool, ◌&&◌, ◌||◌, is_some, Some, None, Ok, Err, Option, Result, ◌==◌, nat_lt}
 use Rattle.list.specs.Place.{place}
 use Rattle.model.specs.declared.fault.Fault.{Fault}
 use Rattle.model.specs.declared.interface.Interface.{Interface}
@@ -18,9 +18,9 @@ pub data Named : Type 0 where
   buffer : ℕ → Named
   callback : ℕ → Named
 
--- whether a record bears a client and an id; no object has id 0
+-- whether a record bears a client and an id
 abbrev pub bears : ℕ → ℕ → ℕ → ℕ → Bool
-bears client id c i = c == client && (i == id && not (id == 0))
+bears client id c i = c == client && i == id
 
 -- the first of two that is there
 abbrev pub or_else : Option Named → Option Named → Option Named
@@ -34,7 +34,7 @@ named_as kind (Some p) = Some (kind p)
 abbrev pub named : Model → ℕ → ℕ → Option Named
 named m client id =
     or_else (named_as object (place_with (λ o. bears client id o.client o.id) m.objects))
-    (or_else (named_as surface (place (λ s. bears client id s.client s.id) m.surfaces))
+    (or_else (named_as surface (place_with (λ s. bears client id s.client s.id) m.surfaces))
     (or_else (named_as buffer (place_with (λ b. some_and (bears client id b.client) b.id) m.buffers))
     (named_as callback (place (λ k. bears client id k.client k.id) m.callbacks))))
 

@@ -6,7 +6,7 @@ use Rattle.rules.specs.declared.callback.Callback.{Callback}
 use Rattle.rules.specs.declared.object.Object.{Object}
 use Rattle.rules.specs.declared.role.Role.{Role}
 use Rattle.rules.specs.Table.{changed}
-use Rattle.rules.specs.State.{Model, Surface, Pending, Current, Waiting, surface_at}
+use Rattle.rules.specs.State.{Model, Surface, Pending, Current, Waiting}
 
 -- a surface with another pending or current state
 abbrev pub with_pending : Pending → Surface → Surface
@@ -63,7 +63,7 @@ with_order v s =
     with_current (record { hold = s.current.hold; mark = s.current.mark; x = s.current.x; y = s.current.y; order = v }) s
 
 -- the model, field by field
-abbrev pub with_surfaces : List Surface → Model → Model
+abbrev pub with_surfaces : List (Option Surface) → Model → Model
 with_surfaces v m =
     record { surfaces = v; buffers = m.buffers; callbacks = m.callbacks; objects = m.objects; roots = m.roots; waiting = m.waiting; on = m.on; size = m.size }
 
@@ -93,7 +93,7 @@ with_on v m =
 
 -- one record put at its place
 abbrev pub put_surface : ℕ → Surface → Model → Model
-put_surface p s m = with_surfaces (slice_set m.surfaces p s) m
+put_surface p s m = with_surfaces (slice_set m.surfaces p (Some s)) m
 
 abbrev pub put_buffer : ℕ → Buffer → Model → Model
 put_buffer b f m = with_buffers (slice_set m.buffers b (Some f)) m
@@ -102,15 +102,18 @@ abbrev pub put_object : ℕ → Object → Model → Model
 put_object k o m = with_objects (slice_set m.objects k (Some o)) m
 
 -- one record taken from its place
+abbrev pub free_surface : ℕ → Model → Model
+free_surface p m = with_surfaces (slice_set m.surfaces p None) m
+
 abbrev pub free_object : ℕ → Model → Model
 free_object k m = with_objects (slice_set m.objects k None) m
 
 -- one record changed at its place
+abbrev pub edit_surface : ℕ → (Surface → Surface) → Model → Model
+edit_surface p f m = with_surfaces (changed p f m.surfaces) m
+
 abbrev pub edit_object : ℕ → (Object → Object) → Model → Model
 edit_object k f m = with_objects (changed k f m.objects) m
 
 abbrev pub edit_buffer : ℕ → (Buffer → Buffer) → Model → Model
 edit_buffer b f m = with_buffers (changed b f m.buffers) m
-
-abbrev pub edit_surface : ℕ → (Surface → Surface) → Model → Model
-edit_surface p f m = put_surface p (f (surface_at m p)) m

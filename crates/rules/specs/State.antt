@@ -1,5 +1,5 @@
 -- What a core knows.
-use Rattle.std.specs.Prelude.{ℕ, ◌+◌, ◌*◌, min, Bool, false, List, [], ◌∷◌, ◌++◌, replicate, ℤ, pos, Some, None, Option, slice_index_or}
+use Rattle.std.specs.Prelude.{ℕ, ◌+◌, ◌*◌, min, Bool, false, List, [], ◌∷◌, ◌++◌, replicate, ℤ, pos, Some, None, Option}
 use Rattle.rules.specs.declared.attach.Attach.{Attach}
 use Rattle.rules.specs.declared.attach.Attach.TheVariants.{Nothing}
 use Rattle.rules.specs.declared.buffer.Buffer.{Buffer}
@@ -26,7 +26,7 @@ pub record Current : Type 0 where
   pub y : ℤ
   pub order : List ℕ
 
--- a free place has id 0; parent is a surface's place, object the place of its sub-surface object
+-- parent is a surface's place, object the place of its sub-surface object
 pub record Surface : Type 0 where
   pub client : ℕ
   pub id : ℕ
@@ -43,8 +43,9 @@ pub record Waiting : Type 0 where
   pub buffer : ℕ
   pub mark : ℕ
 
+-- a place of a table has a record, or is free
 pub record Model : Type 0 where
-  pub surfaces : List Surface
+  pub surfaces : List (Option Surface)
   pub buffers : List (Option Buffer)
   -- in the order in which they were asked for
   pub callbacks : List Callback
@@ -99,7 +100,7 @@ globals client =
 abbrev pub empty : ℕ → Model
 empty size =
     record {
-      surfaces = replicate most no_surface;
+      surfaces = replicate most None;
       buffers = replicate most None;
       callbacks = [];
       objects = globals 0 ++ globals 1 ++ globals 2 ++ globals 3;
@@ -111,7 +112,7 @@ empty size =
 
 -- the records by their places
 abbrev pub surface_at : Model → ℕ → Surface
-surface_at m p = slice_index_or m.surfaces p no_surface
+surface_at m p = record_at no_surface m.surfaces p
 
 abbrev pub buffer_at : Model → ℕ → Buffer
 buffer_at m b = record_at no_buffer m.buffers b

@@ -4,8 +4,8 @@ use Rattle.rules.specs.declared.attach.Attach.TheVariants.{Nothing}
 use Rattle.rules.specs.declared.object.Object.{Object}
 use Rattle.rules.specs.declared.object.ObjectKind.TheVariants.{InertSubsurface}
 use Rattle.rules.specs.declared.stage.Stage.TheVariants.{Cached}
-use Rattle.rules.specs.State.{Model, no_surface}
-use Rattle.rules.specs.Setters.{with_parent, with_cached, with_order, with_pending_order, with_roots, put_surface, edit_object}
+use Rattle.rules.specs.State.{Model}
+use Rattle.rules.specs.Setters.{with_parent, with_cached, with_order, with_pending_order, with_roots, free_surface, edit_object}
 use Rattle.rules.specs.Run.{Grow, Run, in_model, at, edit, send, delete_id}
 use Rattle.rules.specs.Hold.{end_cached, end_current}
 use Rattle.rules.specs.Callback.{end_callbacks, stands}
@@ -45,7 +45,7 @@ module _ {E : Type 0} (g : Grow E) where
   abbrev pub end_surface : ℕ → Run E → Run E
   end_surface p r =
       let s = at r p in
-      send g (delete_id s.client s.id) (in_model (λ m. put_surface p no_surface (made_inert s.object None m)) r)
+      send g (delete_id s.client s.id) (in_model (λ m. free_surface p (made_inert s.object None m)) r)
 
   -- wl_surface.destroy
   unfoldable pub destroy : ℕ → Run E → Run E
