@@ -1,8 +1,7 @@
 -- A call in lists that have an end, as code carries it out, is the call of the rules; its events are written from the first place on.
-use Rattle.std.proofs.Common.{◌≡◌, ℕ, suc, ◌+◌, ◌<◌, ◌≤◌, Bool, true, false, not, ◌||◌, eqb, List, [], ◌∷◌, ◌++◌, length, get_or, drop, set, Some, None, Ok, Err, fold, filter, Option, Result, sym, refl, ap, ◌∙◌, append_assoc, arith, length-append, length-drop, drop-cons, map, option_map}
+use Rattle.std.proofs.Common.{◌≡◌, ℕ, suc, ◌+◌, ◌<◌, ◌≤◌, Bool, true, false, not, ◌||◌, eqb, List, [], ◌∷◌, ◌++◌, length, get_or, drop, set, Some, None, Ok, Err, fold, filter, Option, Result, sym, refl, ap, ◌∙◌, append_assoc, arith, length-append, length-drop, drop-cons, map, option_map, ok_or, int_eq, pos}
 use Rattle.std.proofs.lemmas.List.{set_at, append-nil, length_push}
 use Rattle.std.proofs.lemmas.Bool.{leb-false}
-use Rattle.list.specs.Place.{any}
 use Rattle.list.specs.Written.{written}
 use Rattle.model.specs.declared.event.Event.{Event}
 use Rattle.model.specs.declared.fault.Fault.{Fault}
@@ -14,9 +13,9 @@ use Rattle.rules.specs.Run.{plain, start, edit, in_model, send, done, delete_id}
 use Rattle.rules.specs.Bounded.{Sheet, noted, bounded}
 use Rattle.rules.specs.Table.{free_place, record_at}
 use Rattle.rules.specs.Tree.{descends}
-use Rattle.rules.specs.Station.{◌>>=◌, refuse_if, or_refuse}
+use Rattle.rules.specs.Station.{◌>>=◌, refuse_if}
 use Rattle.rules.specs.Ask.{Found, create_surface, get_subsurface, destroy_surface, attach, damage, ask_frame, commit_surface, destroy_subsurface, set_position, place_beside, set_sync, set_desync, destroy_buffer, linked}
-use Rattle.rules.specs.Carry.{spoken_for, crowded, full_callbacks, in_range, is_zero, siblings, adopt, place_in, unless_inert, unlink_linked, forget_object, end_subsurface, nameless, detached, end_buffer, carried}
+use Rattle.rules.specs.Carry.{spoken_for, crowded, full_callbacks, in_range, siblings, adopt, place_in, unless_inert, unlink_linked, forget_object, end_subsurface, nameless, detached, end_buffer, carried}
 use Rattle.rules.specs.Walk.{Shown}
 use Rattle.rules.specs.Call.{raise, mark, switched, is_current, answer_one, answer_current, after_showing}
 use Rattle.rules.specs.Hold.{end_waiting}
@@ -26,6 +25,7 @@ use Rattle.bounds.proofs.Links.{reordering, child_of, subsurface_object}
 use Rattle.bounds.proofs.Tables.{changed_alike}
 use Rattle.bounds.proofs.Coded.{Coded, sheet, coded, pushed_fits, send_coded, end_waiting_coded, commit_coded, desync_coded, unlink_coded, destroy_coded, send_living_coded}
 use Rattle.bounds.proofs.Fitting.{root_fits, child_fits}
+use Rattle.std.specs.List.{list_any}
 
 -- the events stand in the first places, and later places are as they were
 noted_next : (old pre : List Event) (e : Event) → length pre < length old
@@ -66,7 +66,7 @@ module _ (old : List Event) where
   unless_coded false f k' k h = h refl
 
   found_coded : {A : Type 0} (o : Option A) (f : Fault) (k' : A → Result Coded Fault) (k : A → Result Plain Fault) → ((a : A) → o ≡ Some a → k' a ≡ coded_step old (k a))
-      → (or_refuse o f >>= k') ≡ coded_step old (or_refuse o f >>= k)
+      → (ok_or o f >>= k') ≡ coded_step old (ok_or o f >>= k)
   found_coded None f k' k h = refl
   found_coded (Some a) f k' k h = h a refl
 
@@ -75,7 +75,7 @@ module _ (old : List Event) where
   inert_coded None k' k r h = refl
   inert_coded (Some p) k' k r h = h p
 
-  adopt_coded : (m : Model) (client id s q : ℕ) → crowded m client q ≡ false → adopt bounded client id s q (coded old (start m)) ≡ coded old (adopt plain client id s q (start m))
+  adopt_coded : (m : Model) (client id s q : ℕ) → crowded m q ≡ false → adopt bounded client id s q (coded old (start m)) ≡ coded old (adopt plain client id s q (start m))
   adopt_coded m client id s q e =
       let k = object_place client id in
       let known = in_model (put_object k (subsurface_object client id s)) (start m) in
@@ -83,16 +83,16 @@ module _ (old : List Event) where
       let t = child.model.surfaces in
       ap (λ (u : List (Option Surface)). coded old (in_model (with_surfaces u) child))
       (changed_alike no_surface (reordering (λ ys. bounded.ordered ys s)) (reordering (λ ys. plain.ordered ys s)) t q
-      (ap (λ (xs : List ℕ). with_pending_order xs (record_at no_surface t q)) (child_fits m client k s q e)))
+      (ap (λ (xs : List ℕ). with_pending_order xs (record_at no_surface t q)) (child_fits m k s q e)))
 
   placed_coded : (m : Model) (over : Bool) (c by : ℕ) (o : Option ℕ)
       → place_in bounded o over c by (coded old (start m)) ≡ coded_step old (place_in plain o over c by (start m))
   placed_coded m over c by None = refl
-  placed_coded m over c by (Some q) = unless_coded (not (any (eqb by) (siblings m q c))) _ _ _ (λ _. refl)
+  placed_coded m over c by (Some q) = unless_coded (not (list_any (eqb by) (siblings m q c))) _ _ _ (λ _. refl)
 
-  called_coded : (m : Model) (client : ℕ) (k : Callback) → full_callbacks m client ≡ false
+  called_coded : (m : Model) (k : Callback) → full_callbacks m ≡ false
       → in_model (λ n. with_callbacks (bounded.asked n.callbacks k) n) (coded old (start m)) ≡ coded old (in_model (λ n. with_callbacks (plain.asked n.callbacks k) n) (start m))
-  called_coded m client k e =
+  called_coded m k e =
       ap (λ (ks : List Callback). coded old (record { model = with_callbacks ks m; events = [] })) (pushed_fits 64 m.callbacks k (leb-false 64 (length m.callbacks) e))
 
   unlink_linked_coded : (o : Option ℕ) (r : Plain) → unlink_linked bounded o (coded old r) ≡ coded old (unlink_linked plain o r)
@@ -123,16 +123,16 @@ module _ (old : List Event) where
   carried_coded m (get_subsurface client id s q) a =
       unless_coded (spoken_for (surface_at m s)) _ _ _ λ _.
       unless_coded (eqb q s || descends m q s) _ _ _ λ _.
-      unless_coded (crowded m client q) _ _ _ λ e.
+      unless_coded (crowded m q) _ _ _ λ e.
       ap Ok (adopt_coded m client id s q e)
   carried_coded m (destroy_surface p) a = ap Ok (destroy_coded old p (start m) a.glass)
   carried_coded m (attach p v x y) a =
-      unless_coded (not (is_zero x)) _ _ _ λ _.
-      unless_coded (not (is_zero y)) _ _ _ λ _. refl
+      unless_coded (not (int_eq x (pos 0))) _ _ _ λ _.
+      unless_coded (not (int_eq y (pos 0))) _ _ _ λ _. refl
   carried_coded m damage a = refl
   carried_coded m (ask_frame client p id) a =
-      unless_coded (full_callbacks m client) _ _ _ λ e.
-      ap Ok (called_coded m client (record { client = client; id = id; surface = p; stage = Pending }) e)
+      unless_coded (full_callbacks m) _ _ _ λ e.
+      ap Ok (called_coded m (record { client = client; id = id; surface = p; stage = Pending }) e)
   carried_coded m (commit_surface p) a = ap Ok (commit_coded old p (start m) a.glass)
   carried_coded m (destroy_subsurface k) a = ap Ok (end_subsurface_coded k (linked m k) (start m))
   carried_coded m (set_position o x y) a =

@@ -14,12 +14,12 @@ use Rattle.rules.specs.declared.object.ObjectKind.TheVariants.{Display, Composit
 use Rattle.rules.specs.State.{surface_of, Model, Surface, most, no_surface, surface_at, buffer_at, object_at}
 use Rattle.rules.specs.Setters.{with_roots, with_object, with_attach, with_surfaces, edit_buffer, free_surface, free_object}
 use Rattle.rules.specs.Run.{plain, start, at, edit, in_model, send, release, delete_id}
-use Rattle.rules.specs.Hold.{end_current}
+use Rattle.rules.specs.Hold.{end_current, is_of, held}
 use Rattle.rules.specs.Callback.{end_callbacks}
 use Rattle.rules.specs.Table.{changed, without, records}
 use Rattle.rules.specs.Unlink.{as_inert, made_inert, unlink, unlink_children, destroy}
 use Rattle.rules.specs.Ask.{linked, linked_by}
-use Rattle.rules.specs.Carry.{is_held, detached, nameless, unlink_linked, forget_object, end_subsurface, end_buffer}
+use Rattle.rules.specs.Carry.{detached, nameless, unlink_linked, forget_object, end_subsurface, end_buffer}
 use Rattle.bounds.specs.Forest.{parent_in}
 use Rattle.bounds.specs.Sound.{Sound, Tree, Spans, Roots, kind_in, one, on_glass}
 use Rattle.bounds.proofs.Tables.{put_sum, changed_sum, put_here, all_related, all_sum, sum_ones}
@@ -258,10 +258,10 @@ subsurface_ended_fine m k a = subsurface_gone m k (delete_id (object_at m k).cli
 -- wl_buffer.destroy
 detached_alike : (b : ℕ) (s : Surface) → LinkedAlike s (detached b s)
 detached_alike b s =
-    cond_both (is_held b s.pending.attach) (with_attach Null s) s (LinkedAlike s) (λ _. record { parent = refl; object = refl; pending = refl; current = inl refl }) (λ _. alike_same s)
+    cond_both (is_of b (held s.pending.attach)) (with_attach Null s) s (LinkedAlike s) (λ _. record { parent = refl; object = refl; pending = refl; current = inl refl }) (λ _. alike_same s)
 
 detached_mark : (b : ℕ) (s : Surface) → mark_one (detached b s) ≤ mark_one s
-detached_mark b s = cond_both (is_held b s.pending.attach) (with_attach Null s) s (λ (u : Surface). mark_one u ≤ mark_one s) (λ _. omega arith) (λ _. omega arith)
+detached_mark b s = cond_both (is_of b (held s.pending.attach)) (with_attach Null s) s (λ (u : Surface). mark_one u ≤ mark_one s) (λ _. omega arith) (λ _. omega arith)
 
 pub buffer_ended_fine : (m : Model) (b : ℕ) → Sound m → Fine (end_buffer plain b (start m))
 buffer_ended_fine m b a =

@@ -26,8 +26,8 @@ root_fits p ps h a =
     pushed_fits 32 (without p ps) p (omega (arith, pigeons 32 (without p ps ++ p ∷ []) r.once r.places, length_push (without p ps) p))
 
 -- the order of a parent that has fewer than 15 children
-pub child_fits : (m : Model) (client k s q : ℕ) → crowded m client q ≡ false → let t = with_child k s q m.surfaces in pushed 32 (pending_in t q) s ≡ pending_in t q ++ s ∷ []
-child_fits m client k s q e =
+pub child_fits : (m : Model) (k s q : ℕ) → crowded m q ≡ false → let t = with_child k s q m.surfaces in pushed 32 (pending_in t q) s ≡ pending_in t q ++ s ∷ []
+child_fits m k s q e =
     let t = m.surfaces in
     let same : pending_in (with_child k s q t) q ≡ pending_in t q =
     changed_related no_surface (λ (u v : Surface). v.pending.order ≡ u.pending.order) (λ u. refl) t s (child_of k q) refl q in

@@ -6,11 +6,11 @@ use Rattle.std.proofs.ByRecursion.{All-weaker}
 use Rattle.std.proofs.lemmas.List.{get_or_past}
 use Rattle.std.proofs.lemmas.Bool.{cases_lt, cases_eq, eqb-false, eq-eqb, both_ways, or_parts, or_left, or_right}
 use Rattle.rules.specs.State.{Model, Surface, no_surface, surface_at}
-use Rattle.rules.specs.Tree.{above, held_back_in, descends_in, descends}
+use Rattle.rules.specs.Tree.{held_back_in, descends_in, descends}
 use Rattle.bounds.specs.Forest.{parent_in, Climb, stay, rise, Forest, Fits}
 use Rattle.bounds.specs.Member.{Once}
 use Rattle.bounds.proofs.Pigeons.{pigeons}
-use Rattle.rules.specs.Table.{record_at}
+use Rattle.rules.specs.Table.{record_at, some_and}
 
 module _ (t : List (Option Surface)) (p q : ℕ) (e : parent_in t p ≡ Some q) where
   -- a place with a parent has a surface
@@ -116,14 +116,14 @@ empty_forest = record { no_cycle = λ n p c. no_rise n p p c; parents = λ p q e
 
 -- a test that looks up n steps: of a parent it asks g, and then itself with a step less
 module _ (t : List (Option Surface)) (g : ℕ → ℕ → Bool) (test : ℕ → ℕ → Bool)
-    (step : (n p : ℕ) → test (suc n) p ≡ above (parent_in t p) (λ q. g p q || test n q)) where
+    (step : (n p : ℕ) → test (suc n) p ≡ some_and (λ q. g p q || test n q) (parent_in t p)) where
   -- where no way up has n steps, one step more tells no more
   one_more : (n p : ℕ) → ((a : ℕ) → Climb t n p a → ⊥) → test (suc n) p ≡ test n p
   one_more zero p h = absurd (h p (stay p))
   one_more (suc n) p h = step (suc n) p ∙ go (parent_in t p) refl (one_more n) ∙ sym (step n p)
     where
       go : (o : Option ℕ) → parent_in t p ≡ o → ((q : ℕ) → ((a : ℕ) → Climb t n q a → ⊥) → test (suc n) q ≡ test n q)
-          → above o (λ q. g p q || test (suc n) q) ≡ above o (λ q. g p q || test n q)
+          → some_and (λ q. g p q || test (suc n) q) o ≡ some_and (λ q. g p q || test n q) o
       go None e ih = refl
       go (Some q) e ih = ap (λ b. g p q || b) (ih q (λ a c. h a (rise n p q a e c)))
 
@@ -143,7 +143,7 @@ found : (m : Model) (k n p a : ℕ) → Climb m.surfaces (suc n) p a → n < k �
 unfolding descends_in
 found m zero n p a c h = absurd (omega arith)
 found m (suc k) n p a (rise _ _ q _ e c) h =
-    ap (λ o. above o (λ x. eqb x a || descends_in k m x a)) e ∙ go (λ j. found m k j q a) n c h
+    ap (λ o. some_and (λ x. eqb x a || descends_in k m x a) o) e ∙ go (λ j. found m k j q a) n c h
   where
     go : ((j : ℕ) → Climb m.surfaces (suc j) q a → j < k → descends_in k m q a ≡ true)
         → (j : ℕ) → Climb m.surfaces j q a → j < suc k → (eqb q a || descends_in k m q a) ≡ true

@@ -1,8 +1,7 @@
 -- Every request keeps a core sound.
-use Rattle.std.proofs.Common.{◌≡◌, ℕ, ◌≤◌, Bool, true, false, not, ◌||◌, eqb, List, length, ℤ, Some, None, Ok, Option, Result, refl, subst, inl, arith}
+use Rattle.std.proofs.Common.{◌≡◌, ℕ, ◌≤◌, Bool, true, false, not, ◌||◌, eqb, List, length, ℤ, Some, None, Ok, Option, Result, refl, subst, inl, arith, int_eq, pos}
 use Rattle.std.proofs.lemmas.List.{length_push}
 use Rattle.std.proofs.lemmas.Bool.{leb-false}
-use Rattle.list.specs.Place.{any}
 use Rattle.model.specs.declared.fault.Fault.{Fault}
 use Rattle.model.specs.declared.request.Request.{Request}
 use Rattle.model.specs.declared.request.Request.TheVariants.{CreateSurface, GetSubsurface, SurfaceDestroy, Attach as AttachBuffer, Damage, Frame, Commit, SubsurfaceDestroy, SetPosition, PlaceAbove, PlaceBelow, SetSync, SetDesync, BufferDestroy}
@@ -18,7 +17,7 @@ use Rattle.rules.specs.Apply.{commit, desync}
 use Rattle.rules.specs.Tree.{descends}
 use Rattle.rules.specs.Name.{named, interface_of, place_of, new_id, the_surface}
 use Rattle.rules.specs.Ask.{Found, create_surface, get_subsurface, destroy_surface, attach, damage, ask_frame, commit_surface, destroy_subsurface, set_position, place_beside, set_sync, set_desync, destroy_buffer, the_attach, with_objects_found, enough_places, known_client, asked}
-use Rattle.rules.specs.Carry.{spoken_for, crowded, full_callbacks, in_range, is_zero, siblings, place_in, unless_inert, carried}
+use Rattle.rules.specs.Carry.{spoken_for, crowded, full_callbacks, in_range, siblings, place_in, unless_inert, carried}
 use Rattle.rules.specs.Call.{request}
 use Rattle.bounds.specs.Sound.{Sound}
 use Rattle.bounds.proofs.Steps.{LinkedAlike, mark_one, cache_one, edit_keeps}
@@ -28,6 +27,7 @@ use Rattle.bounds.proofs.Kept.{Fine, fine_keeps, unchanged_fine}
 use Rattle.bounds.proofs.Made.{created, adopted_fine, placed_fine}
 use Rattle.bounds.proofs.Ended.{destroyed_fine, subsurface_ended_fine, buffer_ended_fine}
 use Rattle.rules.specs.Table.{free_place}
+use Rattle.std.specs.List.{list_any}
 
 -- the surfaces of get_subsurface are there
 abbrev Places : Model → Found → Type 0
@@ -68,7 +68,7 @@ places_of m client p BufferDestroy = tt
 asked_places : (places client : ℕ) (bytes : List ℕ) (m : Model) → Accepts (Places m) (asked places client bytes m)
 asked_places places client bytes m =
     then (Places m) (enough_places places) _ λ _ _.
-    then (Places m) (known_client m client) _ λ _ _.
+    then (Places m) (known_client client) _ λ _ _.
     then (Places m) (header_answer (header_of bytes) (body_of bytes)) _ λ header _.
     then_found (Places m) (named m client header.object) _ _ λ n _.
     then (Places m) (request_of (interface_of m n) header.opcode (words (body_of bytes))) _ λ q _.
@@ -86,7 +86,7 @@ positioned_fine m (Some p) x y a =
 
 placed_in : (m : Model) (over : Bool) (c by : ℕ) (o : Option ℕ) → (surface_at m c).parent ≡ o → Sound m → Accepts Fine (place_in plain o over c by (start m))
 placed_in m over c by None e a = unchanged_fine m a
-placed_in m over c by (Some q) e a = then_unless Fine (not (any (eqb by) (siblings m q c))) _ _ λ _. placed_fine m over q c by a e
+placed_in m over c by (Some q) e a = then_unless Fine (not (list_any (eqb by) (siblings m q c))) _ _ λ _. placed_fine m over q c by a e
 
 placed_beside : (m : Model) (over : Bool) (o : Option ℕ) (by : ℕ) → Sound m → Accepts Fine (unless_inert plain o (λ p. place_in plain (surface_at m p).parent over p by (start m)) (start m))
 placed_beside m over None by a = unchanged_fine m a
@@ -100,8 +100,8 @@ desynced : (m : Model) (o : Option ℕ) → Sound m → Accepts Fine (unless_ine
 desynced m None a = unchanged_fine m a
 desynced m (Some p) a = fine_keeps 0 m (desync plain p (start m)) a (omega arith) (desync_keeps p (start m))
 
-called : (m : Model) (client : ℕ) (k : Callback) → Sound m → full_callbacks m client ≡ false → Fine (in_model (λ n. with_callbacks (plain.asked n.callbacks k) n) (start m))
-called m client k a e =
+called : (m : Model) (k : Callback) → Sound m → full_callbacks m ≡ false → Fine (in_model (λ n. with_callbacks (plain.asked n.callbacks k) n) (start m))
+called m k a e =
     let room = leb-false 64 (length m.callbacks) e in
     record {
       sound = record { tree = a.tree; spans = a.spans; glass = a.glass; roots = a.roots; callbacks = omega (arith, length_push m.callbacks k, room) };
@@ -113,17 +113,17 @@ carried_fine m (create_surface client id) a h = then_found Fine (free_place m.su
 carried_fine m (get_subsurface client id s q) a h =
     then_unless Fine (spoken_for (surface_at m s)) _ _ λ x.
     then_unless Fine (eqb q s || descends m q s) _ _ λ y.
-    then_unless Fine (crowded m client q) _ _ λ _.
+    then_unless Fine (crowded m q) _ _ λ _.
     adopted_fine m client id s q a h.0 h.1 x y
 carried_fine m (destroy_surface p) a h = destroyed_fine m p a
 carried_fine m (attach p v x y) a h =
-    then_unless Fine (not (is_zero x)) _ _ λ _.
-    then_unless Fine (not (is_zero y)) _ _ λ _.
+    then_unless Fine (not (int_eq x (pos 0))) _ _ λ _.
+    then_unless Fine (not (int_eq y (pos 0))) _ _ λ _.
     edited m p (with_attach v) a (record { parent = refl; object = refl; pending = refl; current = inl refl }) (omega arith) (omega arith)
 carried_fine m damage a h = unchanged_fine m a
 carried_fine m (ask_frame client p id) a h =
-    then_unless Fine (full_callbacks m client) _ _ λ e.
-    called m client (record { client = client; id = id; surface = p; stage = Pending }) a e
+    then_unless Fine (full_callbacks m) _ _ λ e.
+    called m (record { client = client; id = id; surface = p; stage = Pending }) a e
 carried_fine m (commit_surface p) a h = fine_keeps 1 m (commit plain p (start m)) a (omega arith) (commit_keeps p (start m))
 carried_fine m (destroy_subsurface k) a h = subsurface_ended_fine m k a
 carried_fine m (set_position o x y) a h =

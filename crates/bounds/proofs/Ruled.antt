@@ -37,7 +37,7 @@ buffer_fine : (client id first width height stride format : ℕ) (m : Model) →
 buffer_fine client id first width height stride format m a =
     let new : Buffer =
     record { client = client; id = Some id; first = first; width = width; height = height; stride = stride; format = format } in
-    then Fine (known_client m client) _ λ _ _.
+    then Fine (known_client client) _ λ _ _.
     then Fine (new_id m client 0 id) _ λ _ _.
     then_unless Fine (not (shaped (element_at (pos 0) (pos 0) new))) _ _ λ _.
     then_found Fine (free_place m.buffers) _ _ λ b _.
@@ -68,7 +68,7 @@ rooted m p x y h a =
 
 root_fine : (client id : ℕ) (x y : ℤ) (m : Model) → Sound m → Accepts Fine (make_root client id x y m)
 root_fine client id x y m a =
-    then Fine (known_client m client) _ λ _ _.
+    then Fine (known_client client) _ λ _ _.
     then Fine (the_surface m client 0 id) _ λ p e.
     then_unless Fine (not (in_range x && in_range y)) _ _ λ _.
     then_unless Fine (is_sub (surface_at m p).role) _ _ λ _.

@@ -1,12 +1,14 @@
 -- Chains of checks: what holds of a result that passed them.
-use Rattle.std.proofs.Common.{◌≡◌, ℕ, ◌<◌, Bool, true, false, length, get_or, Some, None, Ok, Err, Option, Result, true≢false, sym, refl, subst, arith}
+use Rattle.std.proofs.Common.{◌≡◌, ℕ, ◌<◌, Bool, true, false, length, get_or, Some, None, Ok, Err, Option, Result, true≢false, sym, refl, subst, arith, ok_or, option_and_then, option_map}
 use Rattle.list.specs.Place.{place}
 use Rattle.model.specs.declared.fault.Fault.{Fault}
 use Rattle.rules.specs.State.{Model, Surface}
 use Rattle.rules.specs.Table.{some_and, place_with}
-use Rattle.rules.specs.Station.{◌>>=◌, refuse_if, or_refuse}
-use Rattle.rules.specs.Name.{object, surface, buffer, callback, bears, named_as, or_else, only_surface, the_surface}
+use Rattle.rules.specs.Station.{◌>>=◌, refuse_if}
+use Rattle.rules.specs.Name.{object, surface, buffer, callback, bears, as_surface, the_surface}
 use Rattle.bounds.proofs.Tables.{found_at}
+use Rattle.std.specs.Option.{option_or}
+use Rattle.model.specs.Fault.{fault}
 
 -- what holds of an accepted result
 abbrev pub Accepts : {B : Type 0} → (B → Type 0) → Result B Fault → Type 0
@@ -22,7 +24,7 @@ module _ {B : Type 0} (Q : B → Type 0) where
   then_unless true f next h = tt
   then_unless false f next h = h refl
 
-  pub then_found : {A : Type 0} (o : Option A) (f : Fault) (next : A → Result B Fault) → ((a : A) → o ≡ Some a → Accepts Q (next a)) → Accepts Q (or_refuse o f >>= next)
+  pub then_found : {A : Type 0} (o : Option A) (f : Fault) (next : A → Result B Fault) → ((a : A) → o ≡ Some a → Accepts Q (next a)) → Accepts Q (ok_or o f >>= next)
   then_found None f next h = tt
   then_found (Some a) f next h = h a refl
 
@@ -39,7 +41,7 @@ passed test (Some a) e = (a, refl)
 
 -- a name is that of a surface only if it was found among them
 surface_found : (word : ℕ) (x y z w : Option ℕ) (p : ℕ)
-    → only_surface word (or_else (named_as object x) (or_else (named_as surface y) (or_else (named_as buffer z) (named_as callback w)))) ≡ Ok p
+    → ok_or (option_and_then as_surface (option_or (option_map object x) (option_or (option_map surface y) (option_or (option_map buffer z) (option_map callback w))))) (fault 9 4 word) ≡ Ok p
     → y ≡ Some p
 surface_found word (Some k) y z w p e = cc
 surface_found word None (Some a) z w p e = cc

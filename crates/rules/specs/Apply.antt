@@ -1,7 +1,7 @@
 -- Commit and apply.
 use Rattle.std.specs.Prelude.{ℕ, zero, suc, Bool, true, false, cond, ◌||◌, List, [], ◌∷◌, None, ◌==◌}
 use Rattle.rules.specs.declared.attach.Attach.{Attach}
-use Rattle.rules.specs.declared.attach.Attach.TheVariants.{Nothing, Null, Buffer as Held}
+use Rattle.rules.specs.declared.attach.Attach.TheVariants.{Nothing}
 use Rattle.rules.specs.declared.stage.Stage.TheVariants.{Pending, Cached, Current}
 use Rattle.rules.specs.Setters.{with_attach, with_cached, with_hold, with_mark, with_order, with_position, with_sync}
 use Rattle.rules.specs.Run.{Grow, Run, at, edit}
@@ -19,8 +19,7 @@ module _ {E : Type 0} (g : Grow E) where
   -- apply 1: unless nothing is cached
   abbrev pub take_cached : Attach → ℕ → Run E → Run E
   take_cached Nothing p r = r
-  take_cached Null p r = replace p r
-  take_cached (Held b) p r = replace p r
+  take_cached _ p r = replace p r
 
   -- apply 3: the pending order becomes current
   abbrev pub restack : ℕ → Run E → Run E
@@ -61,8 +60,7 @@ module _ {E : Type 0} (g : Grow E) where
 
   abbrev pub take_pending : Attach → ℕ → Run E → Run E
   take_pending Nothing p r = r
-  take_pending Null p r = cache p r
-  take_pending (Held b) p r = cache p r
+  take_pending _ p r = cache p r
 
   unfoldable pub commit : ℕ → Run E → Run E
   commit p r = apply_free false p (advance p Pending Cached (take_pending (at r p).pending.attach p r))

@@ -1,5 +1,5 @@
 -- What a message asks for, with its objects found.
-use Rattle.std.specs.Prelude.{ℕ, Bool, true, false, List, ℤ, Some, None, Ok, Option, Result, nat_lt}
+use Rattle.std.specs.Prelude.{ℕ, Bool, true, false, List, ℤ, Some, None, Ok, ok_or, Option, Result, nat_lt}
 use Rattle.model.specs.declared.fault.Fault.{Fault}
 use Rattle.model.specs.declared.request.Request.{Request}
 use Rattle.model.specs.declared.request.Request.TheVariants.{CreateSurface, GetSubsurface, SurfaceDestroy, Attach as AttachBuffer, Damage, Frame, Commit, SubsurfaceDestroy, SetPosition, PlaceAbove, PlaceBelow, SetSync, SetDesync, BufferDestroy}
@@ -12,7 +12,7 @@ use Rattle.rules.specs.declared.attach.Attach.TheVariants.{Null, Buffer as Held}
 use Rattle.rules.specs.declared.object.ObjectKind.{ObjectKind}
 use Rattle.rules.specs.declared.object.ObjectKind.TheVariants.{Subsurface}
 use Rattle.rules.specs.State.{Model, object_at}
-use Rattle.rules.specs.Station.{◌>>=◌, refuse_if, or_refuse}
+use Rattle.rules.specs.Station.{◌>>=◌, refuse_if}
 use Rattle.rules.specs.Name.{named, interface_of, place_of, new_id, the_surface, the_buffer}
 
 -- a request whose objects are found, by the places of their records. The surface of a sub-surface object is there unless it is inert
@@ -67,15 +67,15 @@ abbrev pub enough_places : ℕ → Result (Unit {0}) Fault
 enough_places places = refuse_if (nat_lt places 160) (fault 1 1 0)
 
 -- station 2
-abbrev pub known_client : Model → ℕ → Result (Unit {0}) Fault
-known_client m client = refuse_if (nat_lt 3 client) (fault 3 2 0)
+abbrev pub known_client : ℕ → Result (Unit {0}) Fault
+known_client client = refuse_if (nat_lt 3 client) (fault 3 2 0)
 
 -- stations 1 to 4 of a request
 abbrev pub asked : ℕ → ℕ → List ℕ → Model → Result Found Fault
 asked places client bytes m =
     enough_places places >>= λ _.
-    known_client m client >>= λ _.
+    known_client client >>= λ _.
     header_answer (header_of bytes) (body_of bytes) >>= λ header.
-    or_refuse (named m client header.object) (fault 5 3 0) >>= λ n.
+    ok_or (named m client header.object) (fault 5 3 0) >>= λ n.
     request_of (interface_of m n) header.opcode (words (body_of bytes)) >>= λ request.
     with_objects_found m client (place_of n) request

@@ -1,6 +1,6 @@
 -- The six calls: what each answers, which events it sends, and what the core knows then.
-use Rattle.std.specs.Prelude.{ℕ, ◌+◌, Bool, true, false, cond, not, ◌&&◌, ◌||◌, List, [], ◌∷◌, ◌++◌, length, take, drop, ℤ, pos, Some, Ok, Err, fold, filter, option_map, Result, ◌==◌, nat_eq, nat_lt}
-use Rattle.std.specs.List.{list_any}
+use Rattle.std.specs.Prelude.{ℕ, ◌+◌, Bool, true, false, cond, not, ◌&&◌, ◌||◌, List, [], ◌∷◌, length, ℤ, pos, Some, Ok, Err, ok_or, fold, filter, option_map, Result, ◌==◌, nat_eq, nat_lt}
+use Rattle.std.specs.List.{list_any, splice}
 use Rattle.list.specs.Place.{place}
 use Rattle.model.specs.declared.element.Element.{Element}
 use Rattle.model.specs.declared.event.Event.{Event}
@@ -12,7 +12,7 @@ use Rattle.model.specs.Output.{on_answer, show_answer}
 use Rattle.rules.specs.declared.buffer.Buffer.{Buffer}
 use Rattle.rules.specs.declared.callback.Callback.{Callback}
 use Rattle.rules.specs.declared.role.Role.{Role}
-use Rattle.rules.specs.declared.role.Role.TheVariants.{Plain, Root, Sub}
+use Rattle.rules.specs.declared.role.Role.TheVariants.{Root, Sub}
 use Rattle.rules.specs.declared.stage.Stage.TheVariants.{Current}
 use Rattle.rules.specs.State.{Model, Surface, surface_at, buffer_at, buffer_span}
 use Rattle.rules.specs.Setters.{with_role, with_position, with_mark, with_surfaces, with_callbacks, with_roots, with_on, put_buffer}
@@ -21,7 +21,7 @@ use Rattle.rules.specs.Run.{Grow, Run, plain, start, in_model, edit, send, done,
 use Rattle.rules.specs.Hold.{busy, sweep, end_waiting}
 use Rattle.rules.specs.Callback.{same_stage}
 use Rattle.rules.specs.Walk.{Shown, shown, element_at, scene}
-use Rattle.rules.specs.Station.{◌>>=◌, refuse_if, or_refuse}
+use Rattle.rules.specs.Station.{◌>>=◌, refuse_if}
 use Rattle.rules.specs.Name.{new_id, the_surface, the_buffer}
 use Rattle.rules.specs.Ask.{asked, enough_places, known_client}
 use Rattle.rules.specs.Carry.{carried, in_range}
@@ -45,18 +45,17 @@ misplaced m new = nat_lt m.size (new.first + buffer_span new) || list_any (overl
 abbrev pub make_buffer : ℕ → ℕ → ℕ → ℕ → ℕ → ℕ → ℕ → Model → Step
 make_buffer client id first width height stride format m =
     let new : Buffer = record { client = client; id = Some id; first = first; width = width; height = height; stride = stride; format = format } in
-    known_client m client >>= λ _.
+    known_client client >>= λ _.
     new_id m client 0 id >>= λ _.
     refuse_if (not (shaped (element_at (pos 0) (pos 0) new))) (fault 10 5 0) >>= λ _.
-    or_refuse (free_place m.buffers) (fault 14 7 0) >>= λ b.
+    ok_or (free_place m.buffers) (fault 14 7 0) >>= λ b.
     refuse_if (misplaced m new) (fault 15 8 0) >>= λ _.
     Ok (in_model (put_buffer b new) (start m))
 
 -- root
 abbrev pub is_sub : Role → Bool
-is_sub Plain = false
-is_sub Root = false
 is_sub Sub = true
+is_sub _ = false
 
 -- on top of the roots, a second time too
 abbrev pub raise : {E : Type 0} → Grow E → ℕ → Run E → Run E
@@ -64,7 +63,7 @@ raise g p r = in_model (λ m. with_roots (g.rooted (without p m.roots) p) m) r
 
 abbrev pub make_root : ℕ → ℕ → ℤ → ℤ → Model → Step
 make_root client id x y m =
-    known_client m client >>= λ _.
+    known_client client >>= λ _.
     the_surface m client 0 id >>= λ p.
     refuse_if (not (in_range x && in_range y)) (fault 10 5 0) >>= λ _.
     refuse_if (is_sub (surface_at m p).role) (fault 11 6 0) >>= λ _.
@@ -78,7 +77,7 @@ right_memory m memory = refuse_if (not (memory == m.size)) (fault 2 1 0)
 abbrev pub paintable : ℕ → ℕ → ℕ → ℕ → ℕ → Model → Result ℕ Fault
 paintable client id offset count memory m =
     right_memory m memory >>= λ _.
-    known_client m client >>= λ _.
+    known_client client >>= λ _.
     the_buffer m client 0 id >>= λ b.
     refuse_if (nat_lt (buffer_span (buffer_at m b)) (offset + count)) (fault 10 5 0) >>= λ _.
     refuse_if (busy m b) (fault 16 8 0) >>= λ _.
@@ -87,12 +86,10 @@ paintable client id offset count memory m =
 abbrev pub paint : ℕ → ℕ → ℕ → ℕ → ℕ → Model → Step
 paint client id offset count memory m = paintable client id offset count memory m >>= λ _. Ok (start m)
 
--- the pixel memory with pixels in the places from n on
-abbrev pub overwritten : List ℕ → ℕ → List ℕ → List ℕ
-overwritten memory n pixels = take n memory ++ pixels ++ drop (n + length pixels) memory
-
+-- copied in from `offset` of the span on
 abbrev pub painted_by : Model → ℕ → List ℕ → List ℕ → Result ℕ Fault → List ℕ
-painted_by m offset pixels memory (Ok b) = overwritten memory ((buffer_at m b).first + offset) pixels
+painted_by m offset pixels memory (Ok b) =
+    let n = (buffer_at m b).first + offset in splice memory n (n + length pixels) pixels
 painted_by m offset pixels memory (Err f) = memory
 
 -- the pixel memory after a paint
@@ -192,12 +189,9 @@ once_passed (Ok u) asks = asks
 once_passed (Err f) asks = nothing
 
 abbrev pub presents : Call → Model → Presents
-presents (request_call places client bytes) m = nothing
-presents (buffer_call client id first width height stride format) m = nothing
-presents (root_call client id x y) m = nothing
-presents (paint_call client id offset pixels memory) m = nothing
 presents (switch_call on size places) m = once_passed (enough_places places) (cond on switch_on switch_off)
 presents (frame_call time memory places) m = once_passed (enough_places places >>= λ _. right_memory m memory) (show (scene m))
+presents _ m = nothing
 
 -- the core after calls, from a new one with a pixel memory of so many pixels
 abbrev pub after : Model → List Call → Model

@@ -8,14 +8,9 @@ use Rattle.rules.specs.Run.{Grow, Run, in_model, send, delete_id}
 
 abbrev pub same_stage : Stage → Stage → Bool
 same_stage Pending Pending = true
-same_stage Pending Cached = false
-same_stage Pending Current = false
-same_stage Cached Pending = false
 same_stage Cached Cached = true
-same_stage Cached Current = false
-same_stage Current Pending = false
-same_stage Current Cached = false
 same_stage Current Current = true
+same_stage _ _ = false
 
 -- whether a callback belongs to the surface at p and is at that stage
 abbrev pub stands : ℕ → Stage → Callback → Bool

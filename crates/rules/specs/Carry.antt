@@ -1,10 +1,10 @@
 -- Requests carried out: stations 5 to 7, and what is done.
-use Rattle.std.specs.Prelude.{ℕ, Bool, true, false, cond, not, ◌&&◌, ◌||◌, eqb, List, [], ◌∷◌, ◌++◌, length, map, ℤ, pos, negsuc, is_some, Some, None, Ok, Option, option_map, Result, ◌==◌, int_le, nat_le}
-use Rattle.list.specs.Place.{any}
+use Rattle.std.specs.Prelude.{ℕ, Bool, true, false, cond, not, ◌&&◌, ◌||◌, eqb, List, [], ◌∷◌, ◌++◌, length, map, ℤ, pos, negsuc, is_some, Some, None, Ok, Option, ok_or, option_map, Result, ◌==◌, int_le, nat_le}
+use Rattle.std.specs.List.{list_any}
+use Rattle.std.specs.Ordering.{int_eq}
 use Rattle.model.specs.declared.fault.Fault.{Fault}
 use Rattle.model.specs.Fault.{fault}
-use Rattle.rules.specs.declared.attach.Attach.{Attach}
-use Rattle.rules.specs.declared.attach.Attach.TheVariants.{Nothing, Null, Buffer as Held}
+use Rattle.rules.specs.declared.attach.Attach.TheVariants.{Nothing, Null}
 use Rattle.rules.specs.declared.buffer.Buffer.{Buffer}
 use Rattle.rules.specs.declared.object.ObjectKind.TheVariants.{Subsurface}
 use Rattle.rules.specs.declared.role.Role.{Role}
@@ -13,11 +13,12 @@ use Rattle.rules.specs.declared.stage.Stage.TheVariants.{Pending}
 use Rattle.rules.specs.State.{surface_of, Model, Surface, surface_at, buffer_at, object_at, object_place}
 use Rattle.rules.specs.Setters.{with_role, with_parent, with_object, with_sync, with_attach, with_pending_position, with_pending_order, with_surfaces, with_callbacks, put_surface, edit_buffer, put_object, free_object}
 use Rattle.rules.specs.Run.{Grow, Run, in_model, at, edit, send, send_living, delete_id}
+use Rattle.rules.specs.Hold.{held, is_of}
 use Rattle.rules.specs.Apply.{commit, desync}
 use Rattle.rules.specs.Unlink.{unlink, destroy}
 use Rattle.rules.specs.Table.{free_place, without}
 use Rattle.rules.specs.Tree.{descends}
-use Rattle.rules.specs.Station.{◌>>=◌, refuse_if, or_refuse}
+use Rattle.rules.specs.Station.{◌>>=◌, refuse_if}
 use Rattle.rules.specs.Ask.{Found, create_surface, get_subsurface, destroy_surface, attach, damage, ask_frame, commit_surface, destroy_subsurface, set_position, place_beside, set_sync, set_desync, destroy_buffer, linked}
 
 -- a surface at place p that was just made
@@ -36,29 +37,24 @@ new_surface client id p =
     }
 
 abbrev pub is_root : Role → Bool
-is_root Plain = false
 is_root Root = true
-is_root Sub = false
+is_root _ = false
 
 -- station 6, number 11: a root, or a surface that has a sub-surface object
 abbrev pub spoken_for : Surface → Bool
 spoken_for s = is_root s.role || is_some s.object
 
 -- station 7: 15 children, and the parent itself, are in the order
-abbrev pub crowded : Model → ℕ → ℕ → Bool
-crowded m client q = nat_le 16 (length (surface_at m q).pending.order)
+abbrev pub crowded : Model → ℕ → Bool
+crowded m q = nat_le 16 (length (surface_at m q).pending.order)
 
--- no more callbacks
-abbrev pub full_callbacks : Model → ℕ → Bool
-full_callbacks m client = nat_le 64 (length m.callbacks)
+-- station 7: no room for another callback
+abbrev pub full_callbacks : Model → Bool
+full_callbacks m = nat_le 64 (length m.callbacks)
 
 -- positions are from -16,384 to 16,384
 abbrev pub in_range : ℤ → Bool
 in_range v = int_le (negsuc 16383) v && int_le v (pos 16384)
-
-abbrev pub is_zero : ℤ → Bool
-is_zero (pos n) = n == 0
-is_zero (negsuc n) = false
 
 -- the place c next to the place by, in an order that does not have c
 abbrev pub beside : Bool → ℕ → ℕ → ℕ → List ℕ
@@ -72,14 +68,9 @@ inserted over c by (p ∷ ps) = beside over c by p ++ inserted over c by ps
 abbrev pub siblings : Model → ℕ → ℕ → List ℕ
 siblings m q c = without c (surface_at m q).pending.order
 
-abbrev pub is_held : ℕ → Attach → Bool
-is_held b Nothing = false
-is_held b Null = false
-is_held b (Held c) = c == b
-
 -- a pending attach of buffer b becomes null
 abbrev pub detached : ℕ → Surface → Surface
-detached b s = cond (is_held b s.pending.attach) (with_attach Null s) s
+detached b s = cond (is_of b (held s.pending.attach)) (with_attach Null s) s
 
 -- a buffer record whose object has ended
 abbrev pub nameless : Buffer → Buffer
@@ -98,7 +89,7 @@ module _ {E : Type 0} (g : Grow E) where
   abbrev pub place_in : Option ℕ → Bool → ℕ → ℕ → Run E → Result (Run E) Fault
   place_in None over c by r = Ok r
   place_in (Some q) over c by r =
-      refuse_if (not (any (eqb by) (siblings r.model q c))) (fault 13 6 2) >>= λ _.
+      refuse_if (not (list_any (eqb by) (siblings r.model q c))) (fault 13 6 2) >>= λ _.
       Ok (edit q (λ u. with_pending_order (inserted over c by (siblings r.model q c)) u) r)
 
   -- what has no effect on an inert sub-surface object
@@ -131,21 +122,21 @@ module _ {E : Type 0} (g : Grow E) where
   -- stations 5 to 7 of a request, and what it does
   abbrev pub carried : Found → Run E → Result (Run E) Fault
   carried (create_surface client id) r =
-      or_refuse (free_place r.model.surfaces) (fault 14 7 2) >>= λ p.
+      ok_or (free_place r.model.surfaces) (fault 14 7 2) >>= λ p.
       Ok (in_model (put_surface p (new_surface client id p)) r)
   carried (get_subsurface client id s q) r =
       refuse_if (spoken_for (at r s)) (fault 11 6 3) >>= λ _.
       refuse_if (q == s || descends r.model q s) (fault 12 6 4) >>= λ _.
-      refuse_if (crowded r.model client q) (fault 14 7 2) >>= λ _.
+      refuse_if (crowded r.model q) (fault 14 7 2) >>= λ _.
       Ok (adopt client id s q r)
   carried (destroy_surface p) r = Ok (destroy g p r)
   carried (attach p a x y) r =
-      refuse_if (not (is_zero x)) (fault 10 5 3) >>= λ _.
-      refuse_if (not (is_zero y)) (fault 10 5 4) >>= λ _.
+      refuse_if (not (int_eq x (pos 0))) (fault 10 5 3) >>= λ _.
+      refuse_if (not (int_eq y (pos 0))) (fault 10 5 4) >>= λ _.
       Ok (edit p (with_attach a) r)
   carried damage r = Ok r
   carried (ask_frame client p id) r =
-      refuse_if (full_callbacks r.model client) (fault 14 7 2) >>= λ _.
+      refuse_if (full_callbacks r.model) (fault 14 7 2) >>= λ _.
       Ok (in_model (λ m. with_callbacks (g.asked m.callbacks (record { client = client; id = id; surface = p; stage = Pending })) m) r)
   carried (commit_surface p) r = Ok (commit g p r)
   carried (destroy_subsurface k) r = Ok (end_subsurface k (linked r.model k) r)

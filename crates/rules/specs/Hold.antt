@@ -1,12 +1,12 @@
 -- Holds: how they end, and when a buffer is busy.
 use Rattle.std.specs.Prelude.{ℕ, ◌+◌, Bool, cond, not, ◌&&◌, [], is_none, Some, None, fold, sum_by, Option, option_and_then, ◌==◌}
 use Rattle.rules.specs.declared.attach.Attach.{Attach}
-use Rattle.rules.specs.declared.attach.Attach.TheVariants.{Nothing, Null, Buffer as Held}
+use Rattle.rules.specs.declared.attach.Attach.TheVariants.{Buffer as Held}
 use Rattle.rules.specs.declared.buffer.Buffer.{Buffer}
 use Rattle.rules.specs.State.{Model, buffer_at}
 use Rattle.rules.specs.Setters.{with_waiting, with_buffers}
 use Rattle.rules.specs.Run.{Grow, Run, in_model, send_living, release}
-use Rattle.rules.specs.Table.{records, each}
+use Rattle.rules.specs.Table.{some_and, records, each}
 
 module _ {E : Type 0} (g : Grow E) where
   -- a hold of buffer b ends: a release, if the buffer's object lives
@@ -17,9 +17,8 @@ module _ {E : Type 0} (g : Grow E) where
   wait b mark r = in_model (λ m. with_waiting (g.waited m.waiting (record { buffer = b; mark = mark })) m) r
 
   abbrev pub end_cached : Attach → Run E → Run E
-  end_cached Nothing r = r
-  end_cached Null r = r
   end_cached (Held b) r = end_hold b r
+  end_cached _ r = r
 
   -- a current hold ends: one on the glass waits instead
   abbrev pub end_current : Option ℕ → Option ℕ → Run E → Run E
@@ -33,14 +32,16 @@ module _ {E : Type 0} (g : Grow E) where
 
 -- the hold that an attach brings
 abbrev pub held : Attach → Option ℕ
-held Nothing = None
-held Null = None
 held (Held b) = Some b
+held _ = None
 
--- one if the hold is of buffer b
+-- whether there is a hold, and it is of buffer b
+abbrev pub is_of : ℕ → Option ℕ → Bool
+is_of b hold = some_and (λ c. c == b) hold
+
+-- one if it is
 abbrev pub of_buffer : ℕ → Option ℕ → ℕ
-of_buffer b None = 0
-of_buffer b (Some c) = cond (c == b) 1 0
+of_buffer b hold = cond (is_of b hold) 1 0
 
 -- how many holds of buffer b stand: cached, current and waiting
 abbrev pub holds : Model → ℕ → ℕ

@@ -1,5 +1,6 @@
 -- Objects by client and id.
-use Rattle.std.specs.Prelude.{ℕ, Bool, ◌&&◌, ◌||◌, is_some, Some, None, Ok, Err, Option, Result, ◌==◌, nat_lt}
+use Rattle.std.specs.Prelude.{ℕ, Bool, ◌&&◌, ◌||◌, is_some, Some, None, ok_or, Option, option_map, option_and_then, Result, ◌==◌, nat_lt}
+use Rattle.std.specs.Option.{option_or}
 use Rattle.list.specs.Place.{place}
 use Rattle.model.specs.declared.fault.Fault.{Fault}
 use Rattle.model.specs.declared.interface.Interface.{Interface}
@@ -22,21 +23,12 @@ pub data Named : Type 0 where
 abbrev pub bears : ℕ → ℕ → ℕ → ℕ → Bool
 bears client id c i = c == client && i == id
 
--- the first of two that is there
-abbrev pub or_else : Option Named → Option Named → Option Named
-or_else None later = later
-or_else (Some n) later = Some n
-
-abbrev pub named_as : (ℕ → Named) → Option ℕ → Option Named
-named_as kind None = None
-named_as kind (Some p) = Some (kind p)
-
 abbrev pub named : Model → ℕ → ℕ → Option Named
 named m client id =
-    or_else (named_as object (place_with (λ o. bears client id o.client o.id) m.objects))
-    (or_else (named_as surface (place_with (λ s. bears client id s.client s.id) m.surfaces))
-    (or_else (named_as buffer (place_with (λ b. some_and (bears client id b.client) b.id) m.buffers))
-    (named_as callback (place (λ k. bears client id k.client k.id) m.callbacks))))
+    option_or (option_map object (place_with (λ o. bears client id o.client o.id) m.objects))
+    (option_or (option_map surface (place_with (λ s. bears client id s.client s.id) m.surfaces))
+    (option_or (option_map buffer (place_with (λ b. some_and (bears client id b.client) b.id) m.buffers))
+    (option_map callback (place (λ k. bears client id k.client k.id) m.callbacks))))
 
 abbrev pub kind_interface : ObjectKind → Interface
 kind_interface Display = interface.Display
@@ -61,23 +53,18 @@ place_of (callback k) = k
 abbrev pub new_id : Model → ℕ → ℕ → ℕ → Result (Unit {0}) Fault
 new_id m client word id = refuse_if (nat_lt id 4 || nat_lt 255 id || is_some (named m client id)) (fault 8 4 word)
 
--- station 4, number 9: the id of a surface, and of a buffer
-abbrev pub only_surface : ℕ → Option Named → Result ℕ Fault
-only_surface word None = Err (fault 9 4 word)
-only_surface word (Some (object k)) = Err (fault 9 4 word)
-only_surface word (Some (surface p)) = Ok p
-only_surface word (Some (buffer b)) = Err (fault 9 4 word)
-only_surface word (Some (callback k)) = Err (fault 9 4 word)
+-- the place of a surface, and of a buffer
+abbrev pub as_surface : Named → Option ℕ
+as_surface (surface p) = Some p
+as_surface _ = None
 
-abbrev pub only_buffer : ℕ → Option Named → Result ℕ Fault
-only_buffer word None = Err (fault 9 4 word)
-only_buffer word (Some (object k)) = Err (fault 9 4 word)
-only_buffer word (Some (surface p)) = Err (fault 9 4 word)
-only_buffer word (Some (buffer b)) = Ok b
-only_buffer word (Some (callback k)) = Err (fault 9 4 word)
+abbrev pub as_buffer : Named → Option ℕ
+as_buffer (buffer b) = Some b
+as_buffer _ = None
 
+-- station 4, number 9: an id names nothing, or an object of another interface
 abbrev pub the_surface : Model → ℕ → ℕ → ℕ → Result ℕ Fault
-the_surface m client word id = only_surface word (named m client id)
+the_surface m client word id = ok_or (option_and_then as_surface (named m client id)) (fault 9 4 word)
 
 abbrev pub the_buffer : Model → ℕ → ℕ → ℕ → Result ℕ Fault
-the_buffer m client word id = only_buffer word (named m client id)
+the_buffer m client word id = ok_or (option_and_then as_buffer (named m client id)) (fault 9 4 word)

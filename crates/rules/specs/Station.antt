@@ -1,5 +1,5 @@
 -- Checks in their order: the first fault stands.
-use Rattle.std.specs.Prelude.{Bool, cond, Some, None, Ok, Err, Option, Result}
+use Rattle.std.specs.Prelude.{Bool, cond, Ok, Err, Result}
 use Rattle.model.specs.declared.fault.Fault.{Fault}
 
 infixl 20 ◌>>=◌
@@ -11,8 +11,3 @@ abbrev pub ◌>>=◌ : {A B : Type 0} → Result A Fault → (A → Result B Fau
 -- refused exactly if the test holds
 abbrev pub refuse_if : Bool → Fault → Result (Unit {0}) Fault
 refuse_if bad f = cond bad (Err f) (Ok tt)
-
--- refused exactly if there is none
-abbrev pub or_refuse : {A : Type 0} → Option A → Fault → Result A Fault
-or_refuse None f = Err f
-or_refuse (Some a) f = Ok a
