@@ -1,6 +1,6 @@
 -- Callbacks: when the state of one is applied, and which frame answers it.
 use Rattle.std.specs.Prelude.{ℕ, Bool, false, not, ◌&&◌, ◌||◌, List, [], ◌∷◌, is_some}
-use Rattle.list.specs.Place.{any}
+use Rattle.std.specs.List.{list_any}
 use Rattle.rules.specs.Name.{named, bears}
 use Rattle.rules.specs.Call.{Call, is_current}
 use Rattle.laws.specs.History.{model_after, successful_frame}
@@ -10,7 +10,7 @@ module _ (size : ℕ) where
   -- whether the callback o stands in the current state of its surface
   abbrev pub current : Made → List Call → Bool
   current o cs =
-      is_last size o cs && any (λ k. bears o.client o.id k.client k.id && is_current k) (model_after size cs).callbacks
+      is_last size o cs && list_any (λ k. bears o.client o.id k.client k.id && is_current k) (model_after size cs).callbacks
 
   -- whether the state that o was asked for in has been applied: o has been current after some call. That stays so when o has ended
   abbrev pub applied : Made → List Call → Bool

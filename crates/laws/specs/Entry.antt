@@ -1,10 +1,10 @@
 -- What a core wrote in a run. Only `going`, `received` and `RightValues` look at it.
-use Rattle.std.specs.Prelude.{◌≡◌, ℕ, ◌+◌, ◌&&◌, List, [], ◌∷◌, map, Some, None, count_by, Option, ◌==◌}
+use Rattle.std.specs.Prelude.{◌≡◌, ℕ, ◌+◌, ◌&&◌, List, [], ◌∷◌, map, Some, None, count_by, Option, option_and_then, ◌==◌}
 use Rattle.std.specs.List.{AllByRecursion}
 use Rattle.model.specs.declared.event.Event.{Event}
 use Rattle.rules.specs.Call.{Call}
 use Rattle.laws.specs.History.{frame_time}
-use Rattle.laws.specs.Object.{Kind, global, surface, subsurface, buffer, callback, Made, is_object, last_object}
+use Rattle.laws.specs.Object.{Kind, buffer, callback, Made, is_object, last_object}
 
 -- a call of a run, and the events that the core wrote and counted in it
 pub record Entry : Type 0 where
@@ -16,15 +16,12 @@ calls h = map (λ e. e.call) h
 
 -- the value that an opcode 0 event has, in the call c, if it goes to an object of that kind: a release has 0, a done has the time of the frame, and no other kind gets one
 abbrev pub value_for : Call → Kind → Option ℕ
-value_for c global = None
-value_for c surface = None
-value_for c subsurface = None
 value_for c buffer = Some 0
 value_for c (callback s) = frame_time c
+value_for c _ = None
 
 abbrev pub value_to : Call → Option Made → Option ℕ
-value_to c None = None
-value_to c (Some o) = value_for c o.kind
+value_to c object = option_and_then (λ o. value_for c o.kind) object
 
 module _ (size : ℕ) where
   -- the object that an event goes to: the last one that was made with its client and id, by the same call too

@@ -3,43 +3,28 @@ use Rattle.std.specs.Prelude.{◌≡◌, ℕ, Bool, false, not, ◌&&◌, List, 
 use Rattle.model.specs.declared.size.Size.{Size}
 use Rattle.model.specs.Output.{accepted}
 use Rattle.rules.specs.State.{Model, empty}
-use Rattle.rules.specs.Call.{Call, request_call, buffer_call, root_call, paint_call, switch_call, frame_call, rule}
+use Rattle.rules.specs.Call.{Call, paint_call, switch_call, frame_call, rule}
 
 -- a call that is lent a pixel memory is lent one of n pixels
 abbrev pub SameMemory : ℕ → Call → Type 0
-SameMemory n (request_call places client bytes) = Unit {0}
-SameMemory n (buffer_call client id first width height stride format) = Unit {0}
-SameMemory n (root_call client id x y) = Unit {0}
 SameMemory n (paint_call client id offset pixels memory) = memory ≡ n
-SameMemory n (switch_call on size places) = Unit {0}
 SameMemory n (frame_call time memory places) = memory ≡ n
+SameMemory n _ = Unit {0}
 
 -- a switch is lent a presenter of that size; the rules of a frame do not ask for the size
 abbrev pub SameSize : Size → Call → Type 0
-SameSize s (request_call places client bytes) = Unit {0}
-SameSize s (buffer_call client id first width height stride format) = Unit {0}
-SameSize s (root_call client id x y) = Unit {0}
-SameSize s (paint_call client id offset pixels memory) = Unit {0}
 SameSize s (switch_call on size places) = size ≡ s
-SameSize s (frame_call time memory places) = Unit {0}
+SameSize s _ = Unit {0}
 
 -- the time of a frame; another call has none
 abbrev pub frame_time : Call → Option ℕ
-frame_time (request_call places client bytes) = None
-frame_time (buffer_call client id first width height stride format) = None
-frame_time (root_call client id x y) = None
-frame_time (paint_call client id offset pixels memory) = None
-frame_time (switch_call on size places) = None
 frame_time (frame_call time memory places) = Some time
+frame_time _ = None
 
 -- whether a call is a switch to on
 abbrev pub switches_on : Call → Bool
-switches_on (request_call places client bytes) = false
-switches_on (buffer_call client id first width height stride format) = false
-switches_on (root_call client id x y) = false
-switches_on (paint_call client id offset pixels memory) = false
 switches_on (switch_call on size places) = on
-switches_on (frame_call time memory places) = false
+switches_on _ = false
 
 -- size is that of the pixel memory; `empty` cuts it to what a core can have
 module _ (size : ℕ) where

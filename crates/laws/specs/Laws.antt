@@ -5,7 +5,7 @@ use Rattle.model.specs.declared.size.Size.{Size}
 use Rattle.rules.specs.Hold.{holds}
 use Rattle.laws.specs.History.{SameMemory, SameSize, model_after, successful_frame}
 use Rattle.laws.specs.Picture.{pixels, last_picture}
-use Rattle.laws.specs.Object.{Kind, global, surface, subsurface, buffer, callback, Made, objects}
+use Rattle.laws.specs.Object.{Kind, callback, Made, objects}
 use Rattle.laws.specs.Buffer.{commits, counted_place}
 use Rattle.laws.specs.Callback.{framed, first_due}
 use Rattle.laws.specs.Entry.{Entry, calls, going, received, RightValues}
@@ -17,11 +17,8 @@ OfNewest F (e ∷ h) = F e h
 
 -- of the surface of a callback; other kinds have none
 abbrev pub OfCallback : Kind → (ℕ → Type 0) → Type 0
-OfCallback global F = Unit {0}
-OfCallback surface F = Unit {0}
-OfCallback subsurface F = Unit {0}
-OfCallback buffer F = Unit {0}
 OfCallback (callback s) F = F s
+OfCallback _ F = Unit {0}
 
 module _ (size : ℕ) where
   -- from its making to its destruction: each commit that carried the buffer o is released, or its hold stands

@@ -1,8 +1,10 @@
 -- The objects that were ever made. A client and an id name one object after another; what tells objects apart for good is the call that made them.
-use Rattle.std.specs.Prelude.{ℕ, Bool, false, cond, ◌&&◌, List, [], ◌∷◌, ◌++◌, length, Some, None, Ok, Err, Option, ◌==◌, nat_lt}
+use Rattle.std.specs.Prelude.{ℕ, Bool, cond, List, [], ◌∷◌, ◌++◌, length, Ok, Err, Option, find, ◌==◌, nat_lt}
+use Rattle.rules.specs.Table.{some_and}
+use Rattle.rules.specs.Name.{bears}
 use Rattle.rules.specs.State.{Model, surface_at}
-use Rattle.rules.specs.Ask.{Found, create_surface, get_subsurface, destroy_surface, attach, damage, ask_frame, commit_surface, destroy_subsurface, set_position, place_beside, set_sync, set_desync, destroy_buffer, asked}
-use Rattle.rules.specs.Call.{Call, request_call, buffer_call, root_call, paint_call, switch_call, frame_call}
+use Rattle.rules.specs.Ask.{Found, create_surface, get_subsurface, ask_frame, asked}
+use Rattle.rules.specs.Call.{Call, request_call, buffer_call}
 use Rattle.laws.specs.History.{model_after, accepts}
 
 -- a callback has the id of the surface on which it was asked for
@@ -30,43 +32,23 @@ globals_of client = made 0 client 1 global ∷ made 0 client 2 global ∷ made 0
 abbrev pub made_by_request : ℕ → Model → Found → List Made
 made_by_request k m (create_surface client id) = made k client id surface ∷ []
 made_by_request k m (get_subsurface client id s q) = made k client id subsurface ∷ []
-made_by_request k m (destroy_surface p) = []
-made_by_request k m (attach p a x y) = []
-made_by_request k m damage = []
 made_by_request k m (ask_frame client p id) = made k client id (callback (surface_at m p).id) ∷ []
-made_by_request k m (commit_surface p) = []
-made_by_request k m (destroy_subsurface o) = []
-made_by_request k m (set_position p x y) = []
-made_by_request k m (place_beside over p by) = []
-made_by_request k m (set_sync p) = []
-made_by_request k m (set_desync p) = []
-made_by_request k m (destroy_buffer b) = []
+made_by_request k m _ = []
 
 -- what an accepted call makes, as call k
 abbrev pub made_by : ℕ → Call → Model → List Made
 made_by k (request_call places client bytes) m =
     elim (asked places client bytes m) [ Ok found ↦ made_by_request k m found | Err fault ↦ [] ]
 made_by k (buffer_call client id first width height stride format) m = made k client id buffer ∷ []
-made_by k (root_call client id x y) m = []
-made_by k (paint_call client id offset pixels memory) m = []
-made_by k (switch_call on size places) m = []
-made_by k (frame_call time memory places) m = []
-
--- the first of a list of objects that has the client and the id
-abbrev pub first_named : ℕ → ℕ → List Made → Option Made
-first_named client id [] = None
-first_named client id (o ∷ os) =
-    cond (o.client == client && o.id == id) (Some o) (first_named client id os)
+made_by k _ m = []
 
 -- whether there is an object, and it is o
 abbrev pub is_object : Made → Option Made → Bool
-is_object o None = false
-is_object o (Some other) = other.call == o.call
+is_object o object = some_and (λ other. other.call == o.call) object
 
 -- whether there is an object, and it is older than o
 abbrev pub is_older : Made → Option Made → Bool
-is_older o None = false
-is_older o (Some other) = nat_lt other.call o.call
+is_older o object = some_and (λ other. nat_lt other.call o.call) object
 
 module _ (size : ℕ) where
   -- every object that was ever made, the newest first
@@ -77,7 +59,7 @@ module _ (size : ℕ) where
 
   -- the last object that was made with a client and an id
   abbrev pub last_object : List Call → ℕ → ℕ → Option Made
-  last_object cs client id = first_named client id (objects cs)
+  last_object cs client id = find (λ o. bears client id o.client o.id) (objects cs)
 
   -- whether no object was made with the client and id of o since o
   abbrev pub is_last : Made → List Call → Bool

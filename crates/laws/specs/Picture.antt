@@ -4,17 +4,13 @@ use Rattle.model.specs.Pixel.{black}
 use Rattle.model.specs.Scene.{picture}
 use Rattle.rules.specs.State.{Model}
 use Rattle.rules.specs.Walk.{scene}
-use Rattle.rules.specs.Call.{Call, request_call, buffer_call, root_call, paint_call, switch_call, frame_call, painted}
+use Rattle.rules.specs.Call.{Call, paint_call, painted}
 use Rattle.laws.specs.History.{model_after, successful_frame, lights}
 
 -- the pixel memory after a call: only an accepted paint changes it
 abbrev pub memory_after : Call → Model → List ℕ → List ℕ
-memory_after (request_call places client bytes) m memory = memory
-memory_after (buffer_call client id first width height stride format) m memory = memory
-memory_after (root_call client id x y) m memory = memory
 memory_after (paint_call client id offset new n) m memory = painted client id offset new memory m
-memory_after (switch_call on size places) m memory = memory
-memory_after (frame_call time n places) m memory = memory
+memory_after _ m memory = memory
 
 -- one pixel memory serves the whole run; start is what it held before the first call
 module _ (start : List ℕ) where
