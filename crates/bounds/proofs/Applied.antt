@@ -3,6 +3,7 @@ use Rattle.std.proofs.Common.{◌≡◌, ℕ, zero, suc, ◌+◌, ◌≤◌, Boo
 use Rattle.std.specs.List.{push}
 use Rattle.std.proofs.lemmas.List.{length_push}
 use Rattle.std.proofs.lemmas.Bool.{cond_both}
+use Rattle.std.specs.Option.{option_len}
 use Rattle.rules.specs.declared.attach.Attach.{Attach}
 use Rattle.rules.specs.declared.attach.Attach.TheVariants.{Nothing, Null, Buffer as Held}
 use Rattle.rules.specs.declared.stage.Stage.TheVariants.{Pending, Cached, Current}
@@ -14,7 +15,6 @@ use Rattle.rules.specs.Hold.{end_cached, end_current, held}
 use Rattle.rules.specs.Callback.{advance}
 use Rattle.rules.specs.Tree.{held_back}
 use Rattle.rules.specs.Apply.{replace, take_cached, restack, apply_self, settle, apply_place, apply_children, apply_in, apply_free, cache, take_pending, commit, desync}
-use Rattle.bounds.specs.Sound.{one}
 use Rattle.bounds.proofs.Tables.{changed_related, changed_sum}
 use Rattle.bounds.proofs.Steps.{Plain, LinkedAlike, alike_same, cached_one, cached_most, mark_one, cache_one, sent_living, Keeps, keeps_same, keeps_then, edit_keeps, sent_keeps, advance_keeps}
 
@@ -51,7 +51,7 @@ end_keeps p r (Some b) None e c =
     (λ i. replaced p r r.model.waiting (push r.events (release f.client i)) (omega (arith, length_push r.events (release f.client i))) (omega arith) c)
 end_keeps p r (Some b) (Some k) e c =
     let w : Waiting = record { buffer = b; mark = k } in
-    replaced p r (push r.model.waiting w) r.events (omega arith) (omega (arith, length_push r.model.waiting w, ap one e)) c
+    replaced p r (push r.model.waiting w) r.events (omega arith) (omega (arith, length_push r.model.waiting w, ap option_len e)) c
 
 replace_keeps : (p : ℕ) (r : Plain) → cache_one (at r p) ≡ 1 → Keeps 0 r (replace plain p r)
 replace_keeps p r c = end_keeps p r (at r p).current.hold (at r p).current.mark refl c

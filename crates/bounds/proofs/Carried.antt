@@ -7,7 +7,7 @@ use Rattle.model.specs.declared.event.Event.{Event}
 use Rattle.model.specs.declared.fault.Fault.{Fault}
 use Rattle.rules.specs.declared.callback.Callback.{Callback}
 use Rattle.rules.specs.declared.stage.Stage.TheVariants.{Pending}
-use Rattle.rules.specs.State.{surface_of, Model, most, surface_at, buffer_at, object_at, object_place, Surface, no_surface}
+use Rattle.rules.specs.State.{Model, surface_of, most, surface_at, buffer_at, object_at, object_place, Surface, no_surface}
 use Rattle.rules.specs.Setters.{with_pending_order, with_callbacks, with_roots, with_on, with_surfaces, put_object, edit_buffer, free_object}
 use Rattle.rules.specs.Run.{plain, start, edit, in_model, send, done, delete_id}
 use Rattle.rules.specs.Bounded.{Sheet, noted, bounded}

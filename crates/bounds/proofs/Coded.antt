@@ -4,6 +4,7 @@ use Rattle.std.proofs.lemmas.List.{take_all, length_push}
 use Rattle.std.proofs.lemmas.List.Sums.{fold_push}
 use Rattle.model.specs.declared.event.Event.{Event}
 use Rattle.list.specs.Bounded.{pushed}
+use Rattle.std.specs.Option.{option_len}
 use Rattle.rules.specs.declared.attach.Attach.{Attach}
 use Rattle.rules.specs.declared.attach.Attach.TheVariants.{Nothing, Null, Buffer as Held}
 use Rattle.rules.specs.declared.callback.Callback.{Callback}
@@ -18,7 +19,7 @@ use Rattle.rules.specs.Tree.{held_back}
 use Rattle.rules.specs.Table.{without}
 use Rattle.rules.specs.Apply.{replace, take_cached, restack, apply_self, settle, apply_place, apply_children, apply_in, apply_free, take_pending, commit, desync}
 use Rattle.rules.specs.Unlink.{made_inert, leave, unlink_from, unlink, unlink_children, end_surface, destroy}
-use Rattle.bounds.specs.Sound.{one, on_glass}
+use Rattle.bounds.specs.Sound.{on_glass}
 use Rattle.bounds.proofs.Tables.{put_sum}
 use Rattle.bounds.proofs.Steps.{Plain, mark_one, Keeps, advance_keeps}
 use Rattle.bounds.proofs.Unlinked.{unlink_ends, unlink_children_ends}
@@ -70,7 +71,7 @@ module _ (old : List Event) where
   end_current_coded p r (Some b) None e h = end_hold_coded b r
   end_current_coded p r (Some b) (Some k) e h =
       let w : Waiting = record { buffer = b; mark = k } in
-      let room : length r.model.waiting < 32 = omega (arith, put_sum no_surface mark_one refl r.model.surfaces p None, ap one e, h) in
+      let room : length r.model.waiting < 32 = omega (arith, put_sum no_surface mark_one refl r.model.surfaces p None, ap option_len e, h) in
       ap (λ (ws : List Waiting). record { model = with_waiting ws r.model; events = sheet old r.events }) (pushed_fits 32 r.model.waiting w room)
 
   ends_coded : (ws : List Waiting) (r : Plain) → fold (λ t w. end_hold bounded w.buffer t) (coded old r) ws ≡ coded old (fold (λ t w. end_hold plain w.buffer t) r ws)

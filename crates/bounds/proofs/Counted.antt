@@ -1,11 +1,10 @@
 -- How often a place stands in a list, and that a place moved beside another stands once.
 use Rattle.std.proofs.Common.{◌≡◌, ℕ, ◌+◌, ◌≤◌, Bool, true, false, cond, eqb, ◌≢◌, List, [], ◌∷◌, ◌++◌, count_by, sym, refl, ap, subst, inl, inr, arith}
 use Rattle.std.specs.List.{AllByRecursion}
-use Rattle.std.proofs.lemmas.List.Sums.{sum_by-cons, sum_by-append, length-filter}
-use Rattle.std.proofs.lemmas.Bool.{eqb-true, eq-eqb, ne_eqb}
+use Rattle.std.proofs.lemmas.List.Sums.{sum_by-cons, sum_by-append}
+use Rattle.std.proofs.lemmas.Bool.{eqb-true, eq-eqb, ne_eqb, cases_eq}
 use Rattle.rules.specs.Carry.{beside, inserted}
 use Rattle.bounds.specs.Member.{Member, Once}
-use Rattle.bounds.proofs.Pigeons.{one_equal}
 
 abbrev counted_one : Bool → ℕ
 counted_one b = cond b 1 0
@@ -23,13 +22,27 @@ count_cons x y ys = sum_by-cons (is_one x) y ys
 count_append : (x : ℕ) (ys zs : List ℕ) → count x (ys ++ zs) ≡ count x ys + count x zs
 count_append x ys zs = sum_by-append (is_one x) ys zs
 
-count_once : (x : ℕ) (ys : List ℕ) → Once ys → count x ys ≤ 1
-count_once x ys o = omega (arith, one_equal x ys o, length-filter (λ y. eqb y x) ys)
-
 count_none : (x : ℕ) (ys : List ℕ) → (Member x ys → ⊥) → count x ys ≡ 0
 count_none x [] n = refl
 count_none x (y ∷ ys) n =
     omega (arith, count_cons x y ys, ap counted_one (ne_eqb y x (λ e. n (inl (sym e)))), count_none x ys (λ m. n (inr m)))
+
+-- a place that others do not equal is not counted among them
+count_others : (x : ℕ) (ys : List ℕ) → AllByRecursion (λ y. y ≢ x) ys → count x ys ≡ 0
+count_others x [] h = refl
+count_others x (y ∷ ys) h = omega (arith, count_cons x y ys, ap counted_one (ne_eqb y x h.0), count_others x ys h.1)
+
+count_once : (x : ℕ) (ys : List ℕ) → Once ys → count x ys ≤ 1
+count_once x [] o = omega arith
+count_once x (y ∷ ys) o =
+    elim (cases_eq y x) [
+      | inl e ↦ omega (arith, count_cons x y ys, counted_most (eqb y x), count_others x ys (subst (λ z. AllByRecursion (λ v. v ≢ z) ys) e o.0))
+      | inr n ↦ omega (arith, count_cons x y ys, ap counted_one (ne_eqb y x n), count_once x ys o.1)
+    ]
+  where
+    counted_most : (b : Bool) → counted_one b ≤ 1
+    counted_most true = omega arith
+    counted_most false = omega arith
 
 others : (x : ℕ) (ys : List ℕ) → count x ys ≡ 0 → AllByRecursion (λ y. y ≢ x) ys
 others x [] e = tt

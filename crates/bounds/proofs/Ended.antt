@@ -6,22 +6,24 @@ use Rattle.std.proofs.lemmas.List.{length_push}
 use Rattle.std.proofs.lemmas.Bool.{cases_eq, cond_both}
 use Rattle.std.proofs.lemmas.Option.{none-some, same_Some}
 use Rattle.model.specs.declared.event.Event.{Event}
+use Rattle.std.specs.Option.{option_len}
 use Rattle.rules.specs.declared.attach.Attach.TheVariants.{Null}
 use Rattle.rules.specs.declared.buffer.Buffer.{Buffer}
 use Rattle.rules.specs.declared.object.Object.{Object}
 use Rattle.rules.specs.declared.object.ObjectKind.{ObjectKind}
 use Rattle.rules.specs.declared.object.ObjectKind.TheVariants.{Display, Compositor, Subcompositor, Subsurface, InertSubsurface}
-use Rattle.rules.specs.State.{surface_of, Model, Surface, most, no_surface, surface_at, buffer_at, object_at}
+use Rattle.rules.specs.State.{Model, surface_of, Surface, most, no_surface, surface_at, buffer_at, object_at}
 use Rattle.rules.specs.Setters.{with_roots, with_object, with_attach, with_surfaces, edit_buffer, free_surface, free_object}
 use Rattle.rules.specs.Run.{plain, start, at, edit, in_model, send, release, delete_id}
 use Rattle.rules.specs.Hold.{end_current, is_of, held}
 use Rattle.rules.specs.Callback.{end_callbacks}
 use Rattle.rules.specs.Table.{changed, without, records}
 use Rattle.rules.specs.Unlink.{as_inert, made_inert, unlink, unlink_children, destroy}
-use Rattle.rules.specs.Ask.{linked, linked_by}
+use Rattle.rules.specs.Ask.{linked}
+use Rattle.rules.specs.State.{linked_by}
 use Rattle.rules.specs.Carry.{detached, nameless, unlink_linked, forget_object, end_subsurface, end_buffer}
 use Rattle.bounds.specs.Forest.{parent_in}
-use Rattle.bounds.specs.Sound.{Sound, Tree, Spans, Roots, kind_in, one, on_glass}
+use Rattle.bounds.specs.Sound.{Sound, Tree, Spans, Roots, kind_in, on_glass}
 use Rattle.bounds.proofs.Tables.{put_sum, changed_sum, put_here, all_related, all_sum, sum_ones}
 use Rattle.bounds.proofs.Pigeons.{once_kept}
 use Rattle.bounds.proofs.Steps.{Plain, mark_one, one_most, sent_living, end_hold_model, end_callbacks_model, end_callbacks_events, LinkedAlike, alike_same}
@@ -44,8 +46,8 @@ record HoldEnds (n : ℕ) (r t : Plain) : Type 0 where
 hold_same : (n : ℕ) (r : Plain) → HoldEnds n r r
 hold_same n r = record { surfaces = refl; objects = refl; buffers = refl; size = refl; callbacks = refl; waiting = omega arith; events = omega arith }
 
-end_current_ends : (h o : Option ℕ) (r : Plain) → HoldEnds (one o) r (end_current plain h o r)
-end_current_ends None o r = hold_same (one o) r
+end_current_ends : (h o : Option ℕ) (r : Plain) → HoldEnds (option_len o) r (end_current plain h o r)
+end_current_ends None o r = hold_same (option_len o) r
 end_current_ends (Some b) None r =
     let f = buffer_at r.model b in
     sent_living (HoldEnds 0 r) (release f.client) f.id r (hold_same 0 r)
@@ -105,7 +107,7 @@ surface_ends p None m = record { surfaces = refl; buffers = refl; size = refl; r
 surface_ends p (Some k) m = record { surfaces = refl; buffers = refl; size = refl; roots = refl; callbacks = refl; waiting = refl }
 
 linked_few : (m : Model) → Sound m → linked_in m.surfaces ≤ most
-linked_few m a = omega (arith, sum_ones (λ (s : Surface). one s.parent) (λ s. one_most s.parent) m.surfaces, a.tree.orders.places)
+linked_few m a = omega (arith, sum_ones (λ (s : Surface). option_len s.parent) (λ s. one_most s.parent) m.surfaces, a.tree.orders.places)
 
 module _ (m : Model) (p : ℕ) (a : Sound m) where
   d₁ : Plain

@@ -6,7 +6,7 @@ use Rattle.rules.specs.declared.object.Object.{Object}
 use Rattle.rules.specs.declared.object.ObjectKind.{ObjectKind}
 use Rattle.rules.specs.declared.object.ObjectKind.TheVariants.{Subsurface, InertSubsurface}
 use Rattle.rules.specs.declared.role.Role.TheVariants.{Sub}
-use Rattle.rules.specs.State.{surface_of, Surface, no_surface, no_object}
+use Rattle.rules.specs.State.{Surface, surface_of, no_surface, no_object}
 use Rattle.rules.specs.Setters.{with_object, with_parent, with_role, with_sync, with_pending_position, with_pending_order}
 use Rattle.bounds.specs.Forest.{parent_in, Climb, stay}
 use Rattle.bounds.specs.Member.{Member, Once}
@@ -14,7 +14,6 @@ use Rattle.bounds.specs.Sound.{Tree, pending_in, current_in, object_in, kind_in}
 use Rattle.bounds.proofs.Tables.{changed_related, changed_here, changed_same, changed_other, changed_cases, put_here, put_cases, put_record_cases, added_member}
 use Rattle.bounds.proofs.Pigeons.{once_added}
 use Rattle.bounds.proofs.Forests.{pruned, adopted}
-use Rattle.bounds.proofs.Trees.{some_none, some_same}
 use Rattle.rules.specs.Table.{record_at, changed}
 
 not_inert : (p : ℕ) (o : Option ℕ) → ◌≡◌ {A = ObjectKind} (Subsurface p) (InertSubsurface o) → ⊥
@@ -66,7 +65,7 @@ module _ (t : List (Option Surface)) (os : List (Option Object)) (k p : ℕ) (a 
   linked_forgotten x q e n =
       let was = sym (forgets x).parent ∙ e in
       elim (cases_eq x p) [
-        | inl z ↦ some_none q (sym (subst (λ y. parent_in t y ≡ Some q) z was) ∙ alone)
+        | inl z ↦ none-some q (sym (sym (subst (λ y. parent_in t y ≡ Some q) z was) ∙ alone))
         | inr z ↦ a.linked x q was (sym (object_kept x z) ∙ n)
       ]
 
@@ -75,7 +74,7 @@ module _ (t : List (Option Surface)) (os : List (Option Object)) (k p : ℕ) (a 
       let g = gone_kinds os k j x e in
       let o = a.known j x (ap surface_of (sym g.0) ∙ e) in
       elim (cases_eq x p) [
-        | inl z ↦ absurd (g.1 (some_same j k (sym (subst (λ y. object_in t y ≡ Some j) z o) ∙ its)))
+        | inl z ↦ absurd (g.1 (same_Some j k (sym (subst (λ y. object_in t y ≡ Some j) z o) ∙ its)))
         | inr z ↦ object_kept x z ∙ o
       ]
 
@@ -188,7 +187,7 @@ module _ (t : List (Option Surface)) (os ps : List (Option Object)) (p : ℕ) (n
   linked_kept x q e n =
       let was = sym (parents_kept x) ∙ e in
       elim (objects_kept x) [
-        | inl z ↦ some_none q (sym (subst (λ y. parent_in t y ≡ Some q) z.0 was) ∙ alone)
+        | inl z ↦ none-some q (sym (sym (subst (λ y. parent_in t y ≡ Some q) z.0 was) ∙ alone))
         | inr z ↦ a.linked x q was (sym z ∙ n)
       ]
 
@@ -273,7 +272,7 @@ module _ (t : List (Option Surface)) (os : List (Option Object)) (k client id s 
       ]
 
   not_known : (j x : ℕ) → surface_of (kind_in os j) ≡ Some x → x ≡ s → ⊥
-  not_known j x e z = some_none j (sym (a.known j x e) ∙ (ap (object_in t) z ∙ alone))
+  not_known j x e z = none-some j (sym (sym (a.known j x e) ∙ (ap (object_in t) z ∙ alone)))
 
   known_now : (j x : ℕ) → surface_of (kind_in (set os k (Some made)) j) ≡ Some x → object_in t₁ x ≡ Some j
   known_now j x e =
@@ -294,7 +293,7 @@ module _ (t : List (Option Surface)) (os : List (Option Object)) (k client id s 
   linked_now : (x y : ℕ) → parent_in t₁ x ≡ Some y → object_in t₁ x ≡ None → ⊥
   linked_now x y e n =
       elim (cases_eq x s) [
-        | inl z ↦ some_none k (sym child_object ∙ subst (λ v. object_in t₁ v ≡ None) z n)
+        | inl z ↦ none-some k (sym (sym child_object ∙ subst (λ v. object_in t₁ v ≡ None) z n))
         | inr z ↦ a.linked x y (sym (ap (λ (v : Surface). v.parent) (other x z)) ∙ e) (sym (ap (λ (v : Surface). v.object) (other x z)) ∙ n)
       ]
 
@@ -304,7 +303,7 @@ module _ (t : List (Option Surface)) (os : List (Option Object)) (k client id s 
       record {
         orders = record {
           places = length-set t s (option_map (child_of k q) (get_or t s None)) ∙ a.orders.places;
-          forest = adopted t t₁ s q a.orders.forest (length-set t s (option_map (child_of k q) (get_or t s None))) there (λ x n. ap (λ (v : Surface). v.parent) (other x n)) (λ x e. some_same x q (sym e ∙ child_parent)) apart;
+          forest = adopted t t₁ s q a.orders.forest (length-set t s (option_map (child_of k q) (get_or t s None))) there (λ x n. ap (λ (v : Surface). v.parent) (other x n)) (λ x e. same_Some x q (sym e ∙ child_parent)) apart;
           pending = λ x c m. child_now x c (a.orders.pending x c (subst (λ (ys : List ℕ). Member c ys) (adopts x).pending m));
           current = λ x c m. child_now x c (a.orders.current x c (subst (λ (ys : List ℕ). Member c ys) (adopts x).current m));
           once = λ x. subst Once (sym (adopts x).pending) (a.orders.once x);

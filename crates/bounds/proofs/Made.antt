@@ -1,6 +1,6 @@
 -- Requests that make a surface, adopt one or place one in an order.
 use Rattle.std.proofs.Common.{◌≡◌, ℕ, Bool, true, false, cond, not, ◌||◌, eqb, ◌⊎◌, List, [], ◌∷◌, ◌++◌, get_or, is_some, Some, None, Option, sym, refl, ◌∙◌, subst, inl, inr, arith, is_none, ap, unwrap_or}
-use Rattle.std.proofs.lemmas.Bool.{or_parts, true≢false}
+use Rattle.std.proofs.lemmas.Bool.{not-true, or_parts, true≢false}
 use Rattle.rules.specs.State.{Model, no_surface, surface_at, object_place}
 use Rattle.rules.specs.Run.{plain, start, edit, in_model}
 use Rattle.rules.specs.Setters.{with_pending_order, put_surface}
@@ -14,19 +14,18 @@ use Rattle.bounds.proofs.Pigeons.{once_kept}
 use Rattle.bounds.proofs.Counted.{inserted_once}
 use Rattle.bounds.proofs.Forests.{apart}
 use Rattle.bounds.proofs.Steps.{mark_one}
-use Rattle.bounds.proofs.Trees.{some_none}
 use Rattle.bounds.proofs.Links.{reordering, tree_replaced, tree_adopted, tree_reordered, with_child, child_of}
 use Rattle.bounds.proofs.Stations.{FoundSurface}
 use Rattle.bounds.proofs.Kept.{Fine}
 use Rattle.rules.specs.Table.{free_place}
+use Rattle.std.proofs.lemmas.Option.{none-some}
 
-none_some : (o : Option ℕ) → is_some o ≡ false → o ≡ None
+none_some : {A : Type 0} (o : Option A) → is_some o ≡ false → o ≡ None
 none_some None e = refl
 none_some (Some q) e = absurd (true≢false e)
 
 none_of : {A : Type 0} (o : Option A) → is_none o ≡ true → o ≡ None
-none_of None e = refl
-none_of (Some a) e = absurd (true≢false (sym e))
+none_of o e = none_some o (not-true (is_some o) e)
 
 -- create_surface, in a free place
 pub created : (m : Model) (client id p : ℕ) → Sound m → free_place m.surfaces ≡ Some p → Fine (in_model (put_surface p (new_surface client id p)) (start m))
@@ -41,7 +40,7 @@ created m client id p a e =
     let own : (c : ℕ) → Member c (p ∷ []) → c ≡ p = λ c k. elim k [ inl z ↦ z | inr z ↦ absurd z ] in
     record {
       sound = record {
-        tree = tree_replaced t m.objects m.objects p (Some new) a.tree alone refl refl (tt, tt) own own (λ k x h. (refl, λ z. some_none k (sym z ∙ none)));
+        tree = tree_replaced t m.objects m.objects p (Some new) a.tree alone refl refl (tt, tt) own own (λ k x h. (refl, λ z. none-some k (sym (sym z ∙ none))));
         spans = a.spans;
         glass = omega (arith, put_sum no_surface mark_one refl t p (Some new), a.glass);
         roots = a.roots;

@@ -1,10 +1,11 @@
 -- Numbers below n of which none stands twice are at most n.
-use Rattle.std.proofs.Common.{◌≡◌, ℕ, zero, suc, ◌<◌, ◌≤◌, Bool, not, eqb, ◌≢◌, List, [], ◌∷◌, ◌++◌, length, filter, refl, ap, ◌∙◌, inl, inr, arith}
+use Rattle.std.proofs.Common.{◌≡◌, ℕ, ◌<◌, ◌≤◌, Bool, true, false, true≢false, sym, subst, eqb, ◌≢◌, List, [], ◌∷◌, ◌++◌, length, filter, inl, inr}
 use Rattle.std.specs.List.{AllByRecursion}
+use Rattle.std.specs.List.{IsDistinct, list_any}
+use Rattle.std.proofs.lemmas.Map.Steps.{length-le_from_distinct_below}
 use Rattle.bounds.specs.Member.{Member, Once}
-use Rattle.std.proofs.ByRecursion.{all_kept_by, All-push}
-use Rattle.std.proofs.lemmas.List.Filters.{length-filter_both}
-use Rattle.std.proofs.lemmas.Bool.{eqb-true, eqb-false, ne_eqb, not-true, cond_both, cond-false}
+use Rattle.std.proofs.ByRecursion.{all_kept_by, All-push, All-weaker}
+use Rattle.std.proofs.lemmas.Bool.{or_cases, eqb-true, ne_eqb, cond_both}
 
 pub once_kept : (test : ℕ → Bool) (xs : List ℕ) → Once xs → Once (filter test xs)
 once_kept test [] o = tt
@@ -17,33 +18,15 @@ pub once_added : (xs : List ℕ) (x : ℕ) → Once xs → (Member x xs → ⊥)
 once_added [] x o n = (tt, tt)
 once_added (y ∷ xs) x o n = (All-push (λ z. z ≢ y) xs x o.0 (λ e. n (inl e)), once_added xs x o.1 (λ m. n (inr m)))
 
-module _ (k : ℕ) where
-  none_equal : (xs : List ℕ) → AllByRecursion (λ x. x ≢ k) xs → filter (λ x. eqb x k) xs ≡ []
-  none_equal [] h = refl
-  none_equal (x ∷ xs) h =
-      cond-false (eqb x k) (x ∷ filter (λ y. eqb y k) xs) (filter (λ y. eqb y k) xs) (ne_eqb x k h.0)
-      ∙ none_equal xs h.1
+distinct : (xs : List ℕ) → Once xs → IsDistinct eqb xs
+unfolding IsDistinct
+distinct [] o = tt
+distinct (x ∷ xs) o = (All-weaker (λ y. y ≢ x) (λ y. eqb x y ≡ false) (λ y n. ne_eqb x y (λ e. n (sym e))) xs o.0, distinct xs o.1)
 
-  pub one_equal : (xs : List ℕ) → Once xs → length (filter (λ x. eqb x k) xs) ≤ 1
-  one_equal [] o = omega arith
-  one_equal (x ∷ xs) o =
-      cond_both (eqb x k) (x ∷ filter (λ y. eqb y k) xs) (filter (λ y. eqb y k) xs) (λ ys. length ys ≤ 1)
-      (λ e. let h : AllByRecursion (λ y. y ≢ k) xs = rw (eqb-true x k e) at o.0 in omega (arith, ap length (none_equal xs h)))
-      (λ _. one_equal xs o.1)
+member_below : (n : ℕ) (xs : List ℕ) → AllByRecursion (λ x. x < n) xs → (q : ℕ) → list_any (eqb q) xs ≡ true → q < n
+member_below n [] h q e = absurd (true≢false (sym e))
+member_below n (x ∷ xs) h q e =
+    elim (or_cases (eqb q x) (list_any (eqb q) xs) e) [ inl z ↦ subst (λ y. y < n) (sym (eqb-true q x z)) h.0 | inr z ↦ member_below n xs h.1 q z ]
 
-  below_kept : (xs : List ℕ) → AllByRecursion (λ x. x < suc k) xs → AllByRecursion (λ x. x < k) (filter (λ x. not (eqb x k)) xs)
-  below_kept [] h = tt
-  below_kept (x ∷ xs) h =
-      let rest = below_kept xs h.1 in
-      let low : x < suc k = h.0 in
-      cond_both (not (eqb x k)) (x ∷ filter (λ y. not (eqb y k)) xs) (filter (λ y. not (eqb y k)) xs) (AllByRecursion (λ y. y < k))
-      (λ e. let ne : x ≢ k = eqb-false x k (not-true (eqb x k) e) in (omega arith, rest))
-      (λ _. rest)
-
--- by a count of those that are not the highest
 pub pigeons : (n : ℕ) (xs : List ℕ) → Once xs → AllByRecursion (λ x. x < n) xs → length xs ≤ n
-pigeons zero [] o h = omega arith
-pigeons zero (x ∷ xs) o h = let low : x < 0 = h.0 in omega arith
-pigeons (suc n) xs o h =
-    let most = pigeons n (filter (λ x. not (eqb x n)) xs) (once_kept (λ x. not (eqb x n)) xs o) (below_kept n xs h) in
-    omega (arith, one_equal n xs o, length-filter_both (λ x. eqb x n) (λ x. not (eqb x n)) (λ _. refl) xs)
+pigeons n xs o h = length-le_from_distinct_below xs n (distinct xs o) (member_below n xs h)

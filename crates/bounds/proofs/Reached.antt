@@ -1,7 +1,7 @@
 -- From a new core on, every core is sound.
 use Rattle.std.proofs.Common.{◌≡◌, ℕ, zero, suc, List, [], ◌∷◌, ◌++◌, replicate, sym, refl, ap, ◌∙◌, subst, arith, Option, None, unwrap_or}
 use Rattle.rules.specs.declared.object.Object.{Object}
-use Rattle.rules.specs.State.{surface_of, Model, Surface, most, no_surface, globals, empty}
+use Rattle.rules.specs.State.{Model, surface_of, Surface, most, no_surface, globals, empty}
 use Rattle.rules.specs.Call.{Call, rule, after}
 use Rattle.bounds.specs.Member.{Member, Once}
 use Rattle.bounds.specs.Sound.{Sound, Orders, kind_in}
@@ -12,7 +12,7 @@ use Rattle.bounds.proofs.Spans.{no_spans}
 use Rattle.bounds.proofs.Links.{kind_of}
 use Rattle.std.proofs.lemmas.Option.{none-some}
 use Rattle.bounds.proofs.Steps.{mark_one, one_most}
-use Rattle.bounds.proofs.Trees.{some_none, orders_same}
+use Rattle.bounds.proofs.Trees.{orders_same}
 use Rattle.bounds.proofs.Ruled.{rule_sound, rule_events}
 use Rattle.bounds.proofs.Depth.{apply_deep, walk_deep}
 use Rattle.rules.specs.Table.{record_at}
@@ -60,7 +60,7 @@ empty_sound size =
     record {
       tree = record {
         orders = empty_orders;
-        linked = λ p q e n. some_none q (sym e ∙ ap (λ (s : Surface). s.parent) (none_at p));
+        linked = λ p q e n. none-some q (sym (sym e ∙ ap (λ (s : Surface). s.parent) (none_at p)));
         inert = λ k p e. absurd (none-some p (sym (all_globals k) ∙ ap surface_of e));
         known = λ k p e. absurd (none-some p (sym (all_globals k) ∙ e));
       };

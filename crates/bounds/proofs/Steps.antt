@@ -4,6 +4,7 @@ use lib.ListN.{length-map}
 use Rattle.std.proofs.lemmas.List.Filters.{length-filter_both}
 use Rattle.std.proofs.lemmas.List.{length_push}
 use Rattle.model.specs.declared.event.Event.{Event}
+use Rattle.std.specs.Option.{option_len}
 use Rattle.rules.specs.declared.attach.Attach.{Attach}
 use Rattle.rules.specs.declared.attach.Attach.TheVariants.{Nothing, Null, Buffer as Held}
 use Rattle.rules.specs.declared.callback.Callback.{Callback}
@@ -13,7 +14,7 @@ use Rattle.rules.specs.Setters.{with_callbacks, with_waiting}
 use Rattle.rules.specs.Run.{Run, plain, at, edit, send, release, delete_id, send_living}
 use Rattle.rules.specs.Hold.{end_hold, end_cached, end_waiting}
 use Rattle.rules.specs.Callback.{advance, moved, end_callbacks}
-use Rattle.bounds.specs.Sound.{one, on_glass}
+use Rattle.bounds.specs.Sound.{on_glass}
 use Rattle.bounds.proofs.Tables.{changed_related, changed_sum}
 use Rattle.rules.specs.Table.{records}
 
@@ -97,12 +98,12 @@ keeps_then n k r t u a b =
       spends = omega (arith, a.spends, b.spends);
     }
 
-pub one_most : (o : Option ℕ) → one o ≤ 1
+pub one_most : (o : Option ℕ) → option_len o ≤ 1
 one_most None = omega arith
 one_most (Some x) = omega arith
 
 abbrev pub mark_one : Surface → ℕ
-mark_one s = one s.current.mark
+mark_one s = option_len s.current.mark
 
 abbrev pub cache_one : Surface → ℕ
 cache_one s = cached_one s.cached

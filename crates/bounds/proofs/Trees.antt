@@ -1,10 +1,10 @@
 -- What keeps the tree of surfaces and its links.
-use Rattle.std.proofs.Common.{◌≡◌, ℕ, ◌≢◌, ◌⊎◌, List, length, Some, None, Option, sym, ◌∙◌, subst, inl, inr, arith, ap}
+use Rattle.std.proofs.Common.{◌≡◌, ℕ, ◌≢◌, ◌⊎◌, List, length, Some, None, Option, sym, ◌∙◌, subst, inl, inr, ap}
 use Rattle.std.proofs.lemmas.Bool.{cases_eq}
-use Rattle.std.proofs.lemmas.Option.{same_Some}
+use Rattle.std.proofs.lemmas.Option.{same_Some, none-some}
 use Rattle.rules.specs.declared.object.Object.{Object}
 use Rattle.rules.specs.declared.object.ObjectKind.TheVariants.{InertSubsurface}
-use Rattle.rules.specs.State.{surface_of, Model, Surface, no_surface}
+use Rattle.rules.specs.State.{Model, surface_of, Surface, no_surface}
 use Rattle.bounds.specs.Forest.{parent_in}
 use Rattle.bounds.specs.Member.{Member, Once}
 use Rattle.bounds.specs.Reached.{SameOrders}
@@ -12,12 +12,6 @@ use Rattle.bounds.specs.Sound.{Orders, Tree, pending_in, current_in, object_in, 
 use Rattle.bounds.proofs.Forests.{pruned}
 use Rattle.bounds.proofs.Steps.{LinkedAlike}
 use Rattle.rules.specs.Table.{record_at}
-
-pub some_none : {A : Type 0} (a : A) → ◌≡◌ {A = Option A} (Some a) None → ⊥
-some_none a e = let z : ◌≡◌ {A = ℕ} 0 1 = cc in omega arith
-
-pub some_same : (a b : ℕ) → ◌≡◌ {A = Option ℕ} (Some a) (Some b) → a ≡ b
-some_same a b e = cc
 
 -- parents and pending orders that stay, where a pending order may have become current
 pub orders_stay : (t u : List (Option Surface)) → length u ≡ length t → ((q : ℕ) → parent_in u q ≡ parent_in t q) → ((q : ℕ) → pending_in u q ≡ pending_in t q)
@@ -69,7 +63,7 @@ module _ (p : ℕ) (t u : List (Option Surface)) (os ps : List (Option Object)) 
   parents_cut x = elim (cases_eq x p) [ inl e ↦ inr (subst (λ y. parent_in u y ≡ None) (sym e) h.gone) | inr n ↦ inl (h.parent x n) ]
 
   parent_before : (x q : ℕ) → parent_in u x ≡ Some q → parent_in t x ≡ Some q
-  parent_before x q e = elim (parents_cut x) [ inl k ↦ sym k ∙ e | inr k ↦ absurd (some_none q (sym e ∙ k)) ]
+  parent_before x q e = elim (parents_cut x) [ inl k ↦ sym k ∙ e | inr k ↦ absurd (none-some q (sym (sym e ∙ k))) ]
 
   child_cut : (q c : ℕ) → (parent_in t p ≡ Some q → c ≢ p) → (c ≡ q) ⊎ (parent_in t c ≡ Some q) → (c ≡ q) ⊎ (parent_in u c ≡ Some q)
   child_cut q c n (inl e) = inl e

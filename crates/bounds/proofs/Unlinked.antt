@@ -1,6 +1,7 @@
 -- Unlink: what it does to the tree, and how many events it sends.
 use Rattle.std.proofs.Common.{◌≡◌, ℕ, ◌+◌, ◌≤◌, Bool, not, eqb, ◌≢◌, ◌⊎◌, List, [], ◌∷◌, length, get_or, Some, None, fold, sum_by, filter, Option, option_map, sym, refl, ap, ◌∙◌, subst, inl, inr, arith, length-set}
 use Rattle.std.proofs.lemmas.List.Sums.{length-filter, count_by-le-length}
+use Rattle.std.specs.Option.{option_len}
 use Rattle.rules.specs.declared.attach.Attach.TheVariants.{Nothing}
 use Rattle.rules.specs.declared.callback.Callback.{Callback}
 use Rattle.rules.specs.declared.object.Object.{Object}
@@ -15,11 +16,12 @@ use Rattle.rules.specs.Table.{changed, without, record_at, records}
 use Rattle.rules.specs.Unlink.{as_inert, made_inert, leave, unlink_from, unlink, unlink_children}
 use Rattle.bounds.specs.Forest.{parent_in}
 use Rattle.bounds.specs.Member.{Member, Once}
-use Rattle.bounds.specs.Sound.{Tree, pending_in, current_in, object_in, kind_in, one, on_glass}
+use Rattle.bounds.specs.Sound.{Tree, pending_in, current_in, object_in, kind_in, on_glass}
 use Rattle.bounds.proofs.Tables.{changed_related, changed_here, changed_other, changed_cases, changed_sum, without_member}
 use Rattle.bounds.proofs.Pigeons.{once_kept}
 use Rattle.bounds.proofs.Steps.{Plain, mark_one, cached_most, end_cached_model, end_cached_events, end_callbacks_model, end_callbacks_events}
-use Rattle.bounds.proofs.Trees.{some_same, tree_cut}
+use Rattle.bounds.proofs.Trees.{tree_cut}
+use Rattle.std.proofs.lemmas.Option.{same_Some}
 
 -- the two edits of the table
 abbrev pub leaving : ℕ → Surface → Surface
@@ -100,11 +102,11 @@ unlinked_tree q p t os e a =
       gone = parent_gone q p t;
       pending = λ x c m. (
         (kept_left q p t x).pending c ((kept_parted q p t x).pending c m),
-        λ k. not_pending q p t c (subst (λ y. Member c (pending_in (parted q p t) y)) (some_same x q (sym k ∙ e)) m),
+        λ k. not_pending q p t c (subst (λ y. Member c (pending_in (parted q p t) y)) (same_Some x q (sym k ∙ e)) m),
       );
       current = λ x c m. (
         (kept_left q p t x).current c ((kept_parted q p t x).current c m),
-        λ k. not_current q p t c (subst (λ y. Member c (current_in (parted q p t) y)) (some_same x q (sym k ∙ e)) m),
+        λ k. not_current q p t c (subst (λ y. Member c (current_in (parted q p t) y)) (same_Some x q (sym k ∙ e)) m),
       );
       once = λ x o. (kept_parted q p t x).once ((kept_left q p t x).once o);
       kinds = inert_kinds (object_in t p) p os;
@@ -112,7 +114,7 @@ unlinked_tree q p t os e a =
     a
 
 abbrev linked_one : Surface → ℕ
-linked_one s = one s.parent
+linked_one s = option_len s.parent
 
 abbrev pub linked_in : List (Option Surface) → ℕ
 linked_in t = sum_by linked_one (records t)
@@ -197,7 +199,7 @@ marks_parted q p t =
 
 links_parted : (q p : ℕ) (t : List (Option Surface)) → parent_in t p ≡ Some q → linked_in (parted q p t) + 1 ≤ linked_in t
 links_parted q p t e =
-    omega (arith, changed_sum no_surface linked_one refl t q (leaving p), changed_sum no_surface linked_one refl (left q p t) p parting, ap one (parent_left q p t p ∙ e))
+    omega (arith, changed_sum no_surface linked_one refl t q (leaving p), changed_sum no_surface linked_one refl (left q p t) p parting, ap option_len (parent_left q p t p ∙ e))
 
 parting_parts : (q p : ℕ) (o : Option ℕ) (r : Plain) → (at r p).parent ≡ Some q → Parts r (edit p parting (in_model (made_inert o (Some p)) (leave plain q p r)))
 parting_parts q p None r e =

@@ -1,6 +1,7 @@
 -- What holds of a core after any calls.
 use Rattle.std.specs.Prelude.{◌≡◌, ℕ, ◌+◌, ◌<◌, ◌≤◌, ◌≢◌, ◌⊎◌, List, length, Some, None, sum_by, Option, slice_index_or}
 use Rattle.std.specs.List.{AllByRecursion}
+use Rattle.std.specs.Option.{option_len}
 use Rattle.rules.specs.declared.buffer.Buffer.{Buffer}
 use Rattle.rules.specs.declared.object.Object.{Object}
 use Rattle.rules.specs.declared.object.ObjectKind.{ObjectKind}
@@ -46,14 +47,9 @@ pub record Spans (size : ℕ) (bs : List (Option Buffer)) : Type 0 where
   pub apart : (a b : ℕ) (f g : Buffer) → a ≢ b → slice_index_or bs a None ≡ Some f → slice_index_or bs b None ≡ Some g
       → (f.first + buffer_span f ≤ g.first) ⊎ (g.first + buffer_span g ≤ f.first)
 
--- one, if there is something
-abbrev pub one : Option ℕ → ℕ
-one None = 0
-one (Some x) = 1
-
 -- how many holds are on the glass: current ones that have a mark, and waiting ones
 abbrev pub on_glass : List (Option Surface) → List Waiting → ℕ
-on_glass t ws = sum_by (λ s. one s.current.mark) (records t) + length ws
+on_glass t ws = sum_by (λ s. option_len s.current.mark) (records t) + length ws
 
 -- a surface is raised once
 pub record Roots (ps : List ℕ) : Type 0 where

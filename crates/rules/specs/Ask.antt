@@ -9,9 +9,7 @@ use Rattle.model.specs.Request.{request_of}
 use Rattle.model.specs.Word.{words}
 use Rattle.rules.specs.declared.attach.Attach.{Attach}
 use Rattle.rules.specs.declared.attach.Attach.TheVariants.{Null, Buffer as Held}
-use Rattle.rules.specs.declared.object.ObjectKind.{ObjectKind}
-use Rattle.rules.specs.declared.object.ObjectKind.TheVariants.{Subsurface}
-use Rattle.rules.specs.State.{Model, object_at}
+use Rattle.rules.specs.State.{Model, object_at, linked_by}
 use Rattle.rules.specs.Station.{◌>>=◌, refuse_if}
 use Rattle.rules.specs.Name.{named, interface_of, place_of, new_id, the_surface, the_buffer}
 
@@ -30,10 +28,6 @@ pub data Found : Type 0 where
   set_sync : (surface : Option ℕ) → Found
   set_desync : (surface : Option ℕ) → Found
   destroy_buffer : (buffer : ℕ) → Found
-
-abbrev pub linked_by : ObjectKind → Option ℕ
-linked_by (Subsurface surface) = Some surface
-linked_by _ = None
 
 -- the surface of the sub-surface object at k, unless that is inert
 abbrev pub linked : Model → ℕ → Option ℕ

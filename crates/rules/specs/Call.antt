@@ -86,7 +86,7 @@ paintable client id offset count memory m =
 abbrev pub paint : ℕ → ℕ → ℕ → ℕ → ℕ → Model → Step
 paint client id offset count memory m = paintable client id offset count memory m >>= λ _. Ok (start m)
 
--- copied in from `offset` of the span on
+-- the pixels stand in the span of the buffer that can be painted, from offset on
 abbrev pub painted_by : Model → ℕ → List ℕ → List ℕ → Result ℕ Fault → List ℕ
 painted_by m offset pixels memory (Ok b) =
     let n = (buffer_at m b).first + offset in splice memory n (n + length pixels) pixels

@@ -4,13 +4,13 @@ use Rattle.std.specs.List.{list_any}
 use Rattle.std.specs.Ordering.{int_eq}
 use Rattle.model.specs.declared.fault.Fault.{Fault}
 use Rattle.model.specs.Fault.{fault}
-use Rattle.rules.specs.declared.attach.Attach.TheVariants.{Nothing, Null}
+use Rattle.rules.specs.declared.attach.Attach.TheVariants.{Null}
 use Rattle.rules.specs.declared.buffer.Buffer.{Buffer}
 use Rattle.rules.specs.declared.object.ObjectKind.TheVariants.{Subsurface}
 use Rattle.rules.specs.declared.role.Role.{Role}
-use Rattle.rules.specs.declared.role.Role.TheVariants.{Plain, Root, Sub}
+use Rattle.rules.specs.declared.role.Role.TheVariants.{Root, Sub}
 use Rattle.rules.specs.declared.stage.Stage.TheVariants.{Pending}
-use Rattle.rules.specs.State.{surface_of, Model, Surface, surface_at, buffer_at, object_at, object_place}
+use Rattle.rules.specs.State.{Model, Surface, bare_surface, surface_of, surface_at, buffer_at, object_at, object_place}
 use Rattle.rules.specs.Setters.{with_role, with_parent, with_object, with_sync, with_attach, with_pending_position, with_pending_order, with_surfaces, with_callbacks, put_surface, edit_buffer, put_object, free_object}
 use Rattle.rules.specs.Run.{Grow, Run, in_model, at, edit, send, send_living, delete_id}
 use Rattle.rules.specs.Hold.{held, is_of}
@@ -21,20 +21,9 @@ use Rattle.rules.specs.Tree.{descends}
 use Rattle.rules.specs.Station.{◌>>=◌, refuse_if}
 use Rattle.rules.specs.Ask.{Found, create_surface, get_subsurface, destroy_surface, attach, damage, ask_frame, commit_surface, destroy_subsurface, set_position, place_beside, set_sync, set_desync, destroy_buffer, linked}
 
--- a surface at place p that was just made
+-- a surface at place p that was just made, alone in its orders
 abbrev pub new_surface : ℕ → ℕ → ℕ → Surface
-new_surface client id p =
-    record {
-      client = client;
-      id = id;
-      role = Plain;
-      parent = None;
-      object = None;
-      sync = false;
-      pending = record { attach = Nothing; x = pos 0; y = pos 0; order = p ∷ [] };
-      cached = Nothing;
-      current = record { hold = None; mark = None; x = pos 0; y = pos 0; order = p ∷ [] };
-    }
+new_surface client id p = bare_surface client id (p ∷ [])
 
 abbrev pub is_root : Role → Bool
 is_root Root = true

@@ -58,20 +58,24 @@ pub record Model : Type 0 where
   -- how many pixels the pixel memory has
   pub size : ℕ
 
--- what a place without a record is read as
-abbrev pub no_surface : Surface
-no_surface =
+-- a surface with nothing attached and no role, whose orders both list those places
+abbrev pub bare_surface : ℕ → ℕ → List ℕ → Surface
+bare_surface client id order =
     record {
-      client = 0;
-      id = 0;
+      client = client;
+      id = id;
       role = Plain;
       parent = None;
       object = None;
       sync = false;
-      pending = record { attach = Nothing; x = pos 0; y = pos 0; order = [] };
+      pending = record { attach = Nothing; x = pos 0; y = pos 0; order = order };
       cached = Nothing;
-      current = record { hold = None; mark = None; x = pos 0; y = pos 0; order = [] };
+      current = record { hold = None; mark = None; x = pos 0; y = pos 0; order = order };
     }
+
+-- what a place without a record is read as
+abbrev pub no_surface : Surface
+no_surface = bare_surface 0 0 []
 
 abbrev pub no_buffer : Buffer
 no_buffer = record { client = 0; id = None; first = 0; width = 0; height = 0; stride = 0; format = 0 }
@@ -124,7 +128,12 @@ buffer_span b = b.stride * b.height
 abbrev pub object_at : Model → ℕ → Object
 object_at m k = record_at no_object m.objects k
 
--- the surface that a sub-surface object, inert or not, still belongs to
+-- the surface that a sub-surface object links to a parent; an inert one links none
+abbrev pub linked_by : ObjectKind → Option ℕ
+linked_by (Subsurface surface) = Some surface
+linked_by _ = None
+
+-- the surface that it belongs to, inert or not, while that lives
 abbrev pub surface_of : ObjectKind → Option ℕ
 surface_of (Subsurface surface) = Some surface
 surface_of (InertSubsurface surface) = surface

@@ -11,11 +11,11 @@ use Rattle.rules.specs.Hold.{end_cached, end_current}
 use Rattle.rules.specs.Callback.{end_callbacks, stands}
 use Rattle.rules.specs.Table.{without}
 
--- a sub-surface object as an inert one of that surface
+-- a sub-surface object made inert, and the surface that it still blocks, if that lives
 abbrev pub as_inert : Option ℕ → Object → Object
 as_inert surface o = record { client = o.client; id = o.id; kind = InertSubsurface surface }
 
--- the sub-surface object at k, if there is one, is inert, and knows the surface that it still blocks
+-- the sub-surface object at k, if there is one, becomes inert
 abbrev pub made_inert : Option ℕ → Option ℕ → Model → Model
 made_inert None surface m = m
 made_inert (Some k) surface m = edit_object k (as_inert surface) m
