@@ -1,5 +1,5 @@
 -- Commit, apply and set_desync leave the tree as it is.
-use Rattle.std.proofs.Common.{◌≡◌, ℕ, zero, suc, ◌+◌, ◌≤◌, Bool, true, false, cond, ◌||◌, eqb, List, [], ◌∷◌, length, Some, None, Option, refl, ap, inl, inr, arith, length-set, option_map, get_or}
+use Rattle.std.proofs.Common.{◌≡◌, ℕ, zero, suc, ◌+◌, ◌≤◌, Bool, true, false, cond, ◌||◌, eqb, List, [], ◌∷◌, length, Some, None, Option, refl, ap, inl, inr, arith, length-set, option_map, get_or, fold}
 use Rattle.std.specs.List.{push}
 use Rattle.std.proofs.lemmas.List.{length_push}
 use Rattle.std.proofs.lemmas.Bool.{cond_both}
@@ -14,7 +14,7 @@ use Rattle.rules.specs.Run.{plain, at, edit, release}
 use Rattle.rules.specs.Hold.{end_cached, end_current, held}
 use Rattle.rules.specs.Callback.{advance}
 use Rattle.rules.specs.Tree.{held_back}
-use Rattle.rules.specs.Apply.{replace, take_cached, restack, apply_self, settle, apply_place, apply_children, apply_in, apply_free, cache, take_pending, commit, desync}
+use Rattle.rules.specs.Apply.{replace, take_cached, restack, apply_self, settle, apply_place, apply_in, apply_free, cache, take_pending, commit, desync}
 use Rattle.bounds.proofs.Tables.{changed_related, changed_sum}
 use Rattle.bounds.proofs.Steps.{Plain, LinkedAlike, alike_same, cached_one, cached_most, mark_one, cache_one, sent_living, Keeps, keeps_same, keeps_then, edit_keeps, sent_keeps, advance_keeps}
 
@@ -86,11 +86,11 @@ apply_place_keeps go h p down r c =
     cond_both (eqb c p) r (cond (down || (at r c).sync) (go c t) t) (λ (u : Plain). Keeps 0 r u) (λ _. keeps_same r) λ _.
     cond_both (down || (at r c).sync) (go c t) t (λ (u : Plain). Keeps 0 r u) (λ _. keeps_then 0 0 r t (go c t) (settle_keeps c r) (h c t)) (λ _. settle_keeps c r)
 
-apply_children_keeps : (go : ℕ → Plain → Plain) → KeptBy go → (p : ℕ) (down : Bool) (cs : List ℕ) (r : Plain) → Keeps 0 r (apply_children plain go p down cs r)
+apply_children_keeps : (go : ℕ → Plain → Plain) → KeptBy go → (p : ℕ) (down : Bool) (cs : List ℕ) (r : Plain) → Keeps 0 r (fold (apply_place plain go p down) r cs)
 apply_children_keeps go h p down [] r = keeps_same r
 apply_children_keeps go h p down (c ∷ cs) r =
     let t = apply_place plain go p down r c in
-    keeps_then 0 0 r t (apply_children plain go p down cs t) (apply_place_keeps go h p down r c) (apply_children_keeps go h p down cs t)
+    keeps_then 0 0 r t (fold (apply_place plain go p down) t cs) (apply_place_keeps go h p down r c) (apply_children_keeps go h p down cs t)
 
 pub apply_keeps : (n : ℕ) (down : Bool) (p : ℕ) (r : Plain) → Keeps 0 r (apply_in plain n down p r)
 unfolding apply_in
@@ -98,7 +98,7 @@ apply_keeps zero down p r = keeps_same r
 apply_keeps (suc n) down p r =
     let t = apply_self plain p r in
     let cs = (at t p).current.order in
-    keeps_then 0 0 r t (apply_children plain (apply_in plain n true) p down cs t) (apply_self_keeps p r) (apply_children_keeps (apply_in plain n true) (apply_keeps n true) p down cs t)
+    keeps_then 0 0 r t (fold (apply_place plain (apply_in plain n true) p down) t cs) (apply_self_keeps p r) (apply_children_keeps (apply_in plain n true) (apply_keeps n true) p down cs t)
 
 apply_free_keeps : (down : Bool) (p : ℕ) (r : Plain) → Keeps 0 r (apply_free plain down p r)
 apply_free_keeps down p r =

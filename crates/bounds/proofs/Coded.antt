@@ -17,7 +17,7 @@ use Rattle.rules.specs.Hold.{end_hold, end_cached, end_current, end_waiting, hel
 use Rattle.rules.specs.Callback.{advance, end_callbacks, stands}
 use Rattle.rules.specs.Tree.{held_back}
 use Rattle.rules.specs.Table.{without}
-use Rattle.rules.specs.Apply.{replace, take_cached, restack, apply_self, settle, apply_place, apply_children, apply_in, apply_free, take_pending, commit, desync}
+use Rattle.rules.specs.Apply.{replace, take_cached, restack, apply_self, settle, apply_place, apply_in, apply_free, take_pending, commit, desync}
 use Rattle.rules.specs.Unlink.{made_inert, leave, unlink_from, unlink, unlink_children, end_surface, destroy}
 use Rattle.bounds.specs.Sound.{on_glass}
 use Rattle.bounds.proofs.Tables.{put_sum}
@@ -124,11 +124,11 @@ module _ (old : List Event) where
       ∙ cond_coded (eqb c p) r (cond b (go c t) t)
 
   apply_children_coded : (go' : ℕ → Coded → Coded) (go : ℕ → Plain → Plain) → Codes go' go → KeptBy go → (p : ℕ) (down : Bool) (cs : List ℕ) (r : Plain) → Room r
-      → apply_children bounded go' p down cs (coded old r) ≡ coded old (apply_children plain go p down cs r)
+      → fold (apply_place bounded go' p down) (coded old r) cs ≡ coded old (fold (apply_place plain go p down) r cs)
   apply_children_coded go' go h k p down [] r room = refl
   apply_children_coded go' go h k p down (c ∷ cs) r room =
       let t = apply_place plain go p down r c in
-      ap (λ (u : Coded). apply_children bounded go' p down cs u) (apply_place_coded go' go h p down r c room)
+      ap (λ (u : Coded). fold (apply_place bounded go' p down) u cs) (apply_place_coded go' go h p down r c room)
       ∙ apply_children_coded go' go h k p down cs t (room_kept 0 r t (apply_place_keeps go k p down r c) room)
 
   apply_coded : (n : ℕ) (down : Bool) (p : ℕ) (r : Plain) → Room r → apply_in bounded n down p (coded old r) ≡ coded old (apply_in plain n down p r)
@@ -136,7 +136,7 @@ module _ (old : List Event) where
   apply_coded zero down p r h = refl
   apply_coded (suc n) down p r h =
       let t = apply_self plain p r in
-      ap (λ (u : Coded). apply_children bounded (apply_in bounded n true) p down (at u p).current.order u) (apply_self_coded p r h)
+      ap (λ (u : Coded). fold (apply_place bounded (apply_in bounded n true) p down) u (at u p).current.order) (apply_self_coded p r h)
       ∙ apply_children_coded (apply_in bounded n true) (apply_in plain n true) (λ c u k. apply_coded n true c u k) (apply_keeps n true) p down (at t p).current.order t (room_kept 0 r t (apply_self_keeps p r) h)
 
   apply_free_coded : (down : Bool) (p : ℕ) (r : Plain) → Room r → apply_free bounded down p (coded old r) ≡ coded old (apply_free plain down p r)

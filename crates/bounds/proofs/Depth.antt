@@ -1,10 +1,10 @@
 -- Apply and the walk of the scene end within 32 levels.
-use Rattle.std.proofs.Common.{◌≡◌, ℕ, zero, suc, ◌+◌, Bool, true, false, cond, ◌||◌, eqb, ◌≢◌, ◌⊎◌, List, [], ◌∷◌, ◌++◌, ℤ, ◌+ℤ◌, Some, None, Option, sym, refl, ap, ◌∙◌, subst, inl, inr, suc-add}
+use Rattle.std.proofs.Common.{◌≡◌, ℕ, zero, suc, ◌+◌, Bool, true, false, cond, ◌||◌, eqb, ◌≢◌, ◌⊎◌, List, [], ◌∷◌, ◌++◌, ℤ, ◌+ℤ◌, Some, None, Option, sym, refl, ap, ◌∙◌, subst, inl, inr, suc-add, fold, flat_map}
 use Rattle.std.proofs.lemmas.Bool.Decides.{eqb_tells}
 use Rattle.rules.specs.State.{Model, Surface, surface_at}
 use Rattle.rules.specs.Run.{plain, at}
-use Rattle.rules.specs.Apply.{apply_self, settle, apply_place, apply_children, apply_in}
-use Rattle.rules.specs.Walk.{Shown, walk_order, walk_held, walk_in}
+use Rattle.rules.specs.Apply.{apply_self, settle, apply_place, apply_in}
+use Rattle.rules.specs.Walk.{Shown, walk_place, walk_held, walk_in}
 use Rattle.bounds.specs.Forest.{parent_in, Fits}
 use Rattle.bounds.specs.Member.{Member}
 use Rattle.bounds.specs.Sound.{Orders}
@@ -51,13 +51,13 @@ place_agrees n go go' h p down r c a f own =
     ]
 
 children_agree : (n : ℕ) (go go' : ℕ → Plain → Plain) → Agree n go go' → KeptBy go → (p : ℕ) (down : Bool) (cs : List ℕ) (r : Plain) → OrdersOf r → Fits r.model.surfaces (suc n) p
-    → Own r.model.surfaces p cs → apply_children plain go p down cs r ≡ apply_children plain go' p down cs r
+    → Own r.model.surfaces p cs → fold (apply_place plain go p down) r cs ≡ fold (apply_place plain go' p down) r cs
 children_agree n go go' h kept p down [] r a f own = refl
 children_agree n go go' h kept p down (c ∷ cs) r a f own =
     let t = apply_place plain go p down r c in
     let k = apply_place_keeps go kept p down r c in
     children_agree n go go' h kept p down cs t (orders_kept 0 r t k a) (fits_kept 0 (suc n) p r t k f) (own_kept 0 p cs r t k (λ x m. own x (inr m)))
-    ∙ ap (λ (u : Plain). apply_children plain go' p down cs u) (place_agrees n go go' h p down r c a f (own c (inl refl)))
+    ∙ ap (λ (u : Plain). fold (apply_place plain go' p down) u cs) (place_agrees n go go' h p down r c a f (own c (inl refl)))
 
 -- one level more changes nothing
 pub apply_enough : (n : ℕ) (down : Bool) (p : ℕ) (r : Plain) → OrdersOf r → Fits r.model.surfaces n p → apply_in plain (suc n) down p r ≡ apply_in plain n down p r
@@ -71,11 +71,11 @@ apply_enough (suc n) down p r a f =
     (fits_kept 0 (suc n) p r t k f) (b.current p)
 
 -- the walk of the scene
-order_agrees : (go go' : ℕ → List Shown) (p : ℕ) (own : List Shown) (cs : List ℕ) → ((c : ℕ) → Member c cs → c ≢ p → go c ≡ go' c) → walk_order go p own cs ≡ walk_order go' p own cs
+order_agrees : (go go' : ℕ → List Shown) (p : ℕ) (own : Shown) (cs : List ℕ) → ((c : ℕ) → Member c cs → c ≢ p → go c ≡ go' c) → flat_map (walk_place go p own) cs ≡ flat_map (walk_place go' p own) cs
 order_agrees go go' p own [] h = refl
 order_agrees go go' p own (c ∷ cs) h =
-    let here : cond (eqb c p) own (go c) ≡ cond (eqb c p) own (go' c) = elim (eqb_tells c p) [ inl t ↦ rw t.0 | inr t ↦ rw t.0 (h c (inl refl) t.1) ] in
-    rw here (ap (λ (xs : List Shown). cond (eqb c p) own (go' c) ++ xs) (order_agrees go go' p own cs (λ x m. h x (inr m))))
+    let here : cond (eqb c p) (own ∷ []) (go c) ≡ cond (eqb c p) (own ∷ []) (go' c) = elim (eqb_tells c p) [ inl t ↦ rw t.0 | inr t ↦ rw t.0 (h c (inl refl) t.1) ] in
+    rw here (ap (λ (xs : List Shown). cond (eqb c p) (own ∷ []) (go' c) ++ xs) (order_agrees go go' p own cs (λ x m. h x (inr m))))
 
 held_agrees : (o : Option ℕ) (f g : ℕ → List Shown) → ((b : ℕ) → f b ≡ g b) → walk_held o f ≡ walk_held o g
 held_agrees None f g h = refl
@@ -86,7 +86,7 @@ unfolding walk_in
 walk_enough zero m x y p a f = absurd (fits_none m.surfaces p f)
 walk_enough (suc n) m x y p a f =
     held_agrees (surface_at m p).current.hold _ _ λ b.
-    order_agrees _ _ p (record { surface = p; buffer = b; x = x; y = y } ∷ []) (surface_at m p).current.order λ c k ne.
+    order_agrees _ _ p (record { surface = p; buffer = b; x = x; y = y }) (surface_at m p).current.order λ c k ne.
     let below : Fits m.surfaces n c = elim (a.current p c k) [ inl z ↦ absurd (ne z) | inr z ↦ fits_child m.surfaces n p c f z ] in
     walk_enough n m (x +ℤ (surface_at m c).current.x) (y +ℤ (surface_at m c).current.y) c a below
 

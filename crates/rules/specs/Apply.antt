@@ -1,5 +1,5 @@
 -- Commit and apply.
-use Rattle.std.specs.Prelude.{ℕ, zero, suc, Bool, true, false, cond, ◌||◌, List, [], ◌∷◌, None, ◌==◌}
+use Rattle.std.specs.Prelude.{fold, ℕ, zero, suc, Bool, true, false, cond, ◌||◌, None, ◌==◌}
 use Rattle.rules.specs.declared.attach.Attach.{Attach}
 use Rattle.rules.specs.declared.attach.Attach.TheVariants.{Nothing}
 use Rattle.rules.specs.declared.stage.Stage.TheVariants.{Pending, Cached, Current}
@@ -38,16 +38,12 @@ module _ {E : Type 0} (g : Grow E) where
   apply_place go p down r c =
       cond (c == p) r (cond (down || (at r c).sync) (go c (settle c r)) (settle c r))
 
-  abbrev pub apply_children : (ℕ → Run E → Run E) → ℕ → Bool → List ℕ → Run E → Run E
-  apply_children go p down [] r = r
-  apply_children go p down (c ∷ cs) r = apply_children go p down cs (apply_place go p down r c)
-
   -- apply in a tree that is not deeper than n
   unfoldable pub apply_in : ℕ → Bool → ℕ → Run E → Run E
   apply_in zero down p r = r
   apply_in (suc n) down p r =
       let t = apply_self p r in
-      apply_children (apply_in n true) p down (at t p).current.order t
+      fold (apply_place (apply_in n true) p down) t (at t p).current.order
 
   -- applies p, unless it is held back
   abbrev pub apply_free : Bool → ℕ → Run E → Run E

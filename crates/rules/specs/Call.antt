@@ -1,5 +1,5 @@
 -- The six calls: what each answers, which events it sends, and what the core knows then.
-use Rattle.std.specs.Prelude.{ℕ, ◌+◌, Bool, true, false, cond, not, ◌&&◌, ◌||◌, List, [], ◌∷◌, length, ℤ, pos, Some, Ok, Err, ok_or, fold, filter, option_map, Result, ◌==◌, nat_eq, nat_lt}
+use Rattle.std.specs.Prelude.{ℕ, ◌+◌, Bool, true, false, cond, not, ◌&&◌, ◌||◌, List, [], length, ℤ, pos, Some, Ok, Err, ok_or, fold, filter, option_map, Result, ◌==◌, nat_eq, nat_lt}
 use Rattle.std.specs.List.{list_any, splice}
 use Rattle.list.specs.Place.{place}
 use Rattle.model.specs.declared.element.Element.{Element}
@@ -195,5 +195,4 @@ presents _ m = nothing
 
 -- the core after calls, from a new one with a pixel memory of so many pixels
 abbrev pub after : Model → List Call → Model
-after m [] = m
-after m (c ∷ cs) = after (rule c m).next cs
+after m calls = fold (λ n c. (rule c n).next) m calls

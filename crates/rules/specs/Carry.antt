@@ -1,5 +1,5 @@
 -- Requests carried out: stations 5 to 7, and what is done.
-use Rattle.std.specs.Prelude.{ℕ, Bool, true, false, cond, not, ◌&&◌, ◌||◌, eqb, List, [], ◌∷◌, ◌++◌, length, map, ℤ, pos, negsuc, is_some, Some, None, Ok, Option, ok_or, option_map, Result, ◌==◌, int_le, nat_le}
+use Rattle.std.specs.Prelude.{ℕ, Bool, true, false, cond, not, ◌&&◌, ◌||◌, eqb, List, [], ◌∷◌, length, map, ℤ, pos, negsuc, is_some, Some, None, Ok, Option, ok_or, option_map, flat_map, Result, ◌==◌, int_le, nat_le}
 use Rattle.std.specs.List.{list_any}
 use Rattle.std.specs.Ordering.{int_eq}
 use Rattle.model.specs.declared.fault.Fault.{Fault}
@@ -50,8 +50,7 @@ abbrev pub beside : Bool → ℕ → ℕ → ℕ → List ℕ
 beside over c by p = cond (p == by) (cond over (p ∷ c ∷ []) (c ∷ p ∷ [])) (p ∷ [])
 
 abbrev pub inserted : Bool → ℕ → ℕ → List ℕ → List ℕ
-inserted over c by [] = []
-inserted over c by (p ∷ ps) = beside over c by p ++ inserted over c by ps
+inserted over c by ps = flat_map (beside over c by) ps
 
 -- the pending order of q without its child c
 abbrev pub siblings : Model → ℕ → ℕ → List ℕ

@@ -1,5 +1,5 @@
 -- Holds: how they end, and when a buffer is busy.
-use Rattle.std.specs.Prelude.{ℕ, ◌+◌, Bool, cond, not, ◌&&◌, [], is_none, Some, None, fold, sum_by, Option, option_and_then, ◌==◌}
+use Rattle.std.specs.Prelude.{ℕ, ◌+◌, Bool, cond, not, ◌&&◌, [], is_none, Some, None, fold, count_by, Option, option_and_then, ◌==◌}
 use Rattle.rules.specs.declared.attach.Attach.{Attach}
 use Rattle.rules.specs.declared.attach.Attach.TheVariants.{Buffer as Held}
 use Rattle.rules.specs.declared.buffer.Buffer.{Buffer}
@@ -39,14 +39,11 @@ held _ = None
 abbrev pub is_of : ℕ → Option ℕ → Bool
 is_of b hold = some_and (λ c. c == b) hold
 
--- one if it is
-abbrev pub of_buffer : ℕ → Option ℕ → ℕ
-of_buffer b hold = cond (is_of b hold) 1 0
-
 -- how many holds of buffer b stand: cached, current and waiting
 abbrev pub holds : Model → ℕ → ℕ
 holds m b =
-    sum_by (λ s. of_buffer b (held s.cached) + of_buffer b s.current.hold) (records m.surfaces) + sum_by (λ w. of_buffer b (Some w.buffer)) m.waiting
+    let all = records m.surfaces in
+    count_by (λ s. is_of b (held s.cached)) all + count_by (λ s. is_of b s.current.hold) all + count_by (λ w. w.buffer == b) m.waiting
 
 abbrev pub busy : Model → ℕ → Bool
 busy m b = not (holds m b == 0)

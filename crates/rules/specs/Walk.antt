@@ -1,5 +1,6 @@
 -- The scene: which surfaces are shown, and where.
-use Rattle.std.specs.Prelude.{ℕ, zero, suc, cond, List, [], ◌∷◌, ◌++◌, map, ℤ, ◌+ℤ◌, Some, None, Option, ◌==◌}
+use Rattle.std.specs.Prelude.{ℕ, zero, suc, cond, List, [], ◌∷◌, map, ℤ, ◌+ℤ◌, Option, ◌==◌, flat_map}
+use Rattle.std.specs.Option.{option_map_or}
 use Rattle.model.specs.declared.element.Element.{Element}
 use Rattle.rules.specs.declared.buffer.Buffer.{Buffer}
 use Rattle.rules.specs.State.{Model, surface_at, buffer_at}
@@ -11,31 +12,25 @@ pub record Shown : Type 0 where
   pub x : ℤ
   pub y : ℤ
 
--- the places of an order of p: p itself gives its own, and a child is walked by go
-abbrev pub walk_order : (ℕ → List Shown) → ℕ → List Shown → List ℕ → List Shown
-walk_order go p own [] = []
-walk_order go p own (c ∷ cs) = cond (c == p) own (go c) ++ walk_order go p own cs
+-- a place of an order of p: p itself gives its own, and a child is walked by go
+abbrev pub walk_place : (ℕ → List Shown) → ℕ → Shown → ℕ → List Shown
+walk_place go p own c = cond (c == p) (own ∷ []) (go c)
 
 -- a surface without a current hold gives nothing, nor do its children
 abbrev pub walk_held : Option ℕ → (ℕ → List Shown) → List Shown
-walk_held None given = []
-walk_held (Some b) given = given b
+walk_held hold given = option_map_or given hold []
 
 -- p at x, y, and its children, in a tree that is not deeper than n
 unfoldable pub walk_in : ℕ → Model → ℤ → ℤ → ℕ → List Shown
 walk_in zero m x y p = []
 walk_in (suc n) m x y p =
     walk_held (surface_at m p).current.hold λ b.
-    walk_order (λ c. walk_in n m (x +ℤ (surface_at m c).current.x) (y +ℤ (surface_at m c).current.y) c) p
-    (record { surface = p; buffer = b; x = x; y = y } ∷ []) (surface_at m p).current.order
-
-abbrev pub walk_roots : Model → List ℕ → List Shown
-walk_roots m [] = []
-walk_roots m (p ∷ ps) = walk_in 32 m (surface_at m p).current.x (surface_at m p).current.y p ++ walk_roots m ps
+    flat_map (walk_place (λ c. walk_in n m (x +ℤ (surface_at m c).current.x) (y +ℤ (surface_at m c).current.y) c) p (record { surface = p; buffer = b; x = x; y = y }))
+    (surface_at m p).current.order
 
 -- the surfaces that are shown, bottom first
 abbrev pub shown : Model → List Shown
-shown m = walk_roots m m.roots
+shown m = flat_map (λ p. walk_in 32 m (surface_at m p).current.x (surface_at m p).current.y p) m.roots
 
 -- a buffer record as an element at x, y
 abbrev pub element_at : ℤ → ℤ → Buffer → Element
