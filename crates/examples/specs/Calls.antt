@@ -1,5 +1,6 @@
 -- Calls as a client writes them, and runs of them.
-use Rattle.std.specs.Prelude.{ℕ, ◌+◌, ◌*◌, ◌/◌, ◌%◌, true, List, [], ◌∷◌, length, pos, Ok, Err, Result}
+use Rattle.std.specs.Prelude.{ℕ, ◌+◌, ◌*◌, ◌/◌, ◌%◌, true, List, [], ◌∷◌, length, pos, Some, None, Option, option_map, Result}
+use Rattle.std.specs.Result.{result_err}
 use Rattle.model.specs.declared.element.Element.{Element}
 use Rattle.model.specs.declared.event.Event.{Event}
 use Rattle.model.specs.declared.fault.Fault.{Fault}
@@ -56,31 +57,33 @@ show surface buffer = attach surface buffer ∷ commit surface ∷ []
 abbrev pub new_core : Model
 new_core = empty 1000
 
--- the number of a refusal, or 0
-abbrev pub number : Result (Unit {0}) Fault → ℕ
-number (Ok u) = 0
-number (Err f) = f.number
+-- what a call answers: the number of its refusal, if it is refused, and its events
+abbrev pub Told : Type 0
+Told = Option ℕ × List Event
 
--- the answer's number and the events of each of the calls
-abbrev pub told : Model → List Call → List (ℕ × List Event)
+abbrev pub refusal : Result (Unit {0}) Fault → Option ℕ
+refusal answer = option_map (λ f. f.number) (result_err answer)
+
+-- what each of the calls answers
+abbrev pub told : Model → List Call → List Told
 told m [] = []
-told m (c ∷ cs) = (number (rule c m).answer, (rule c m).events) ∷ told (rule c m).next cs
+told m (c ∷ cs) = (refusal (rule c m).answer, (rule c m).events) ∷ told (rule c m).next cs
 
 -- accepted without an event, refused, and accepted with one release or with a callback answered
-abbrev pub quiet : ℕ × List Event
-quiet = (0, [])
+abbrev pub quiet : Told
+quiet = (None, [])
 
-abbrev pub refused : ℕ → ℕ × List Event
-refused n = (n, [])
+abbrev pub refused : ℕ → Told
+refused n = (Some n, [])
 
 abbrev pub event : ℕ → ℕ → ℕ → Event
 event object opcode value = record { client = 0; object = object; opcode = opcode; value = value }
 
-abbrev pub releases : ℕ → ℕ × List Event
-releases buffer = (0, event buffer 0 0 ∷ [])
+abbrev pub releases : ℕ → Told
+releases buffer = (None, event buffer 0 0 ∷ [])
 
-abbrev pub answers : ℕ → ℕ → ℕ × List Event
-answers callback time = (0, event callback 0 time ∷ event 1 1 callback ∷ [])
+abbrev pub answers : ℕ → ℕ → Told
+answers callback time = (None, event callback 0 time ∷ event 1 1 callback ∷ [])
 
 -- the element of a buffer that `make_buffer` made, at 0, 0
 abbrev pub element : ℕ → Element
