@@ -218,7 +218,7 @@ record Adopts (u v : Surface) : Type 0 where
   current : v.current.order ≡ u.current.order
 
 abbrev pub child_of : ℕ → ℕ → Surface → Surface
-child_of k q s = with_pending_position (pos 0) (pos 0) (with_sync true (with_object (Some k) (with_parent (Some q) (with_role Sub s))))
+child_of k q s = with_pending_position (pos 0) (pos 0) (with_sync true (with_object (Some k) (with_parent (Some q) (with_role (Some Sub) s))))
 
 abbrev pub with_child : ℕ → ℕ → ℕ → List (Option Surface) → List (Option Surface)
 with_child k s q t = changed s (child_of k q) t

@@ -56,9 +56,9 @@ raised p ps h a =
       places = All-push (λ q. q < most) (without p ps) p rest.places h;
     }
 
-rooted : (m : Model) (p : ℕ) (x y : ℤ) → p < most → Sound m → Fine (raise plain p (edit p (λ s. with_position x y (with_role Root s)) (start m)))
+rooted : (m : Model) (p : ℕ) (x y : ℤ) → p < most → Sound m → Fine (raise plain p (edit p (λ s. with_position x y (with_role (Some Root) s)) (start m)))
 rooted m p x y h a =
-    let f : Surface → Surface = λ s. with_position x y (with_role Root s) in
+    let f : Surface → Surface = λ s. with_position x y (with_role (Some Root) s) in
     let b = fine_keeps 0 m (edit p f (start m)) a (omega arith)
     (edit_keeps 0 p f (start m) (record { parent = refl; object = refl; pending = refl; current = inl refl }) (omega arith) (omega arith)) in
     record {

@@ -1,5 +1,5 @@
 -- The six calls: what each answers, which events it sends, and what the core knows then.
-use Rattle.std.specs.Prelude.{ℕ, ◌+◌, Bool, true, false, cond, not, ◌&&◌, ◌||◌, List, [], length, ℤ, pos, Some, Ok, Err, ok_or, fold, filter, option_map, Result, ◌==◌, nat_eq, nat_lt}
+use Rattle.std.specs.Prelude.{ℕ, ◌+◌, Bool, true, false, cond, not, ◌&&◌, ◌||◌, List, [], length, ℤ, pos, Some, Ok, Err, ok_or, fold, filter, option_map, Result, ◌==◌, nat_eq, nat_lt, Option}
 use Rattle.std.specs.List.{list_any, splice}
 use Rattle.list.specs.Place.{place}
 use Rattle.model.specs.declared.element.Element.{Element}
@@ -53,8 +53,8 @@ make_buffer client id first width height stride format m =
     Ok (in_model (put_buffer b new) (start m))
 
 -- root
-abbrev pub is_sub : Role → Bool
-is_sub Sub = true
+abbrev pub is_sub : Option Role → Bool
+is_sub (Some Sub) = true
 is_sub _ = false
 
 -- on top of the roots, a second time too
@@ -67,7 +67,7 @@ make_root client id x y m =
     the_surface m client 0 id >>= λ p.
     refuse_if (not (in_range x && in_range y)) (fault 10 5 0) >>= λ _.
     refuse_if (is_sub (surface_at m p).role) (fault 11 6 0) >>= λ _.
-    Ok (raise plain p (edit p (λ s. with_position x y (with_role Root s)) (start m)))
+    Ok (raise plain p (edit p (λ s. with_position x y (with_role (Some Root) s)) (start m)))
 
 -- paint
 abbrev pub right_memory : Model → ℕ → Result (Unit {0}) Fault

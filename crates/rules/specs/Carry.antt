@@ -25,8 +25,8 @@ use Rattle.rules.specs.Ask.{Found, create_surface, get_subsurface, destroy_surfa
 abbrev pub new_surface : ℕ → ℕ → ℕ → Surface
 new_surface client id p = bare_surface client id (p ∷ [])
 
-abbrev pub is_root : Role → Bool
-is_root Root = true
+abbrev pub is_root : Option Role → Bool
+is_root (Some Root) = true
 is_root _ = false
 
 -- station 6, number 11: a root, or a surface that has a sub-surface object
@@ -71,7 +71,7 @@ module _ {E : Type 0} (g : Grow E) where
   adopt client id s q r =
       let k = object_place client id in
       let known = in_model (put_object k (record { client = client; id = id; kind = Subsurface s })) r in
-      let child = edit s (λ u. with_pending_position (pos 0) (pos 0) (with_sync true (with_object (Some k) (with_parent (Some q) (with_role Sub u))))) known in
+      let child = edit s (λ u. with_pending_position (pos 0) (pos 0) (with_sync true (with_object (Some k) (with_parent (Some q) (with_role (Some Sub) u))))) known in
       edit q (λ u. with_pending_order (g.ordered u.pending.order s) u) child
 
   abbrev pub place_in : Option ℕ → Bool → ℕ → ℕ → Run E → Result (Run E) Fault

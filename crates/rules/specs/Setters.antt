@@ -17,7 +17,7 @@ abbrev pub with_current : Current → Surface → Surface
 with_current v s =
     record { client = s.client; id = s.id; role = s.role; parent = s.parent; object = s.object; sync = s.sync; pending = s.pending; cached = s.cached; current = v }
 
-abbrev pub with_role : Role → Surface → Surface
+abbrev pub with_role : Option Role → Surface → Surface
 with_role v s =
     record { client = s.client; id = s.id; role = v; parent = s.parent; object = s.object; sync = s.sync; pending = s.pending; cached = s.cached; current = s.current }
 

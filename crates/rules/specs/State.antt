@@ -8,7 +8,6 @@ use Rattle.rules.specs.declared.object.Object.{Object}
 use Rattle.rules.specs.declared.object.ObjectKind.{ObjectKind}
 use Rattle.rules.specs.declared.object.ObjectKind.TheVariants.{Display, Compositor, Subcompositor, Subsurface, InertSubsurface}
 use Rattle.rules.specs.declared.role.Role.{Role}
-use Rattle.rules.specs.declared.role.Role.TheVariants.{Plain}
 use Rattle.rules.specs.Table.{record_at}
 
 -- an order lists the surface's own place and those of its children, bottom first
@@ -30,7 +29,7 @@ pub record Current : Type 0 where
 pub record Surface : Type 0 where
   pub client : ℕ
   pub id : ℕ
-  pub role : Role
+  pub role : Option Role
   pub parent : Option ℕ
   pub object : Option ℕ
   pub sync : Bool
@@ -64,7 +63,7 @@ bare_surface client id order =
     record {
       client = client;
       id = id;
-      role = Plain;
+      role = None;
       parent = None;
       object = None;
       sync = false;

@@ -1,8 +1,7 @@
-// The role of a surface, which never changes once it is given.
+// The role of a surface, if it has one; it never changes once it is given.
 
 #[derive(Clone, Copy, PartialEq, Eq, Debug)]
 pub enum Role {
-    Plain,
     Root,
     Sub,
 }
