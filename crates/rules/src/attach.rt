@@ -1,4 +1,4 @@
-// What a surface's pending or cached state attaches.
+// What a surface's pending or cached state attaches: no Option of an Option, since null is not nothing.
 
 #[derive(Clone, Copy, PartialEq, Eq, Debug)]
 pub enum Attach {

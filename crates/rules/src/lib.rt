@@ -1,4 +1,5 @@
 // The rules of the core as a plain machine; `specs/` has them, and these are the types that they share with the code.
+// Records name one another by their places in tables of fixed size, since the core has no heap.
 #![tactic(auto)]
 
 pub mod attach;
