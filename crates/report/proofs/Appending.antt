@@ -1,32 +1,24 @@
 -- One text after another, appended to an output.
-use Rattle.std.proofs.Common.{◌≡◌, ℕ, ◌+◌, ◌≤◌, cond, List, [], ◌∷◌, ◌++◌, length, take, is_ok, Ok, Err, Result, sym, refl, ap, ◌∙◌, ap₂, arith}
+use Rattle.std.proofs.Common.{◌≡◌, ℕ, ◌+◌, ◌≤◌, true, false, cond, List, [], ◌∷◌, ◌++◌, length, take, is_ok, is_err, Ok, Err, Result, sym, refl, ap, ◌∙◌, ap₂, arith}
 use Rattle.std.specs.List.{range_with_len, flat_map}
-use Rattle.std.proofs.lemmas.List.{append_assoc, take_at, take_all, take-take, flat_map_more, map-id, length-append}
+use Rattle.std.proofs.lemmas.List.{append_assoc, take_at, take-take, flat_map_more, map-id, length-append}
 use Rattle.std.proofs.lemmas.List.FromFn.{map-range_with_len_more}
 use Rattle.report.specs.Output.{Appends}
 
--- what was there before an earlier text is still the front where a later one found no memory
-pub front_kept : (before text middle after : List ℕ) → middle ≡ before ++ text → take (length middle) after ≡ middle → take (length before) after ≡ before
-front_kept before text middle after e f =
-    let long : length before ≤ length middle = omega (arith, simp length-append at (ap length e)) in
-    sym (take-take (length before) (length middle) after long) ∙ ap (take (length before)) (f ∙ e) ∙ take_at before text _ refl
-
--- one text and then another are the two joined
-pub appended : (before a middle b after : List ℕ) → middle ≡ before ++ a → after ≡ middle ++ b → after ≡ before ++ (a ++ b)
-appended before a middle b after e f = f ∙ ap (λ s. s ++ b) e ∙ append_assoc before a b
-
+-- one text and then another are the two joined; where the second found no memory, what was there before the first is still the front
 pub then_appends : {E : Type 0} (r : Result (Unit {0}) E) (before a middle b after : List ℕ) → middle ≡ before ++ a → Appends r middle b after → Appends r before (a ++ b) after
-then_appends (Ok x) before a middle b after e h = appended before a middle b after e h
-then_appends (Err x) before a middle b after e h = front_kept before a middle after e h
+then_appends (Ok x) before a middle b after e h = h ∙ ap (λ s. s ++ b) e ∙ append_assoc before a b
+then_appends (Err x) before a middle b after e h =
+    let long : length before ≤ length middle = omega (arith, simp length-append at (ap length e)) in
+    sym (take-take (length before) (length middle) after long) ∙ ap (take (length before)) (h ∙ e) ∙ take_at before a _ refl
 
-pub three_append : {E : Type 0} (r : Result (Unit {0}) E) (before a first b second c after : List ℕ) → first ≡ before ++ a → second ≡ first ++ b → Appends r second c after
-    → Appends r before (a ++ b ++ c) after
-three_append r before a first b second c after e f h = then_appends r before (a ++ b) second c after (appended before a first b second e f) h
-
--- what `push` and `extend_from_slice` ensure
-pub appends_from_items : {E : Type 0} (r : Result (Unit {0}) E) (before text after : List ℕ) → after ≡ cond (is_ok r) (before ++ text) before → Appends r before text after
-appends_from_items (Ok x) before text after e = e
-appends_from_items (Err x) before text after e = ap (take (length before)) e ∙ take_all _ before (omega arith)
+-- a call of `extend_from_slice` that found no memory, after an earlier text, and the error s that is handed on
+pub stops : {E F : Type 0} (r : Result (Unit {0}) E) (s : Result (Unit {0}) F) (before text middle more after all : List ℕ) → middle ≡ before ++ text → after ≡ cond (is_ok r) more middle
+    → is_ok r ≡ false → is_err s ≡ true → Appends s before all after
+stops r (Ok x) before text middle more after all e f failed err = absurd cc
+stops r (Err x) before text middle more after all e f failed err =
+    let same : after ≡ middle = f ∙ ap (λ ok. cond ok more middle) failed in
+    ap (take (length before)) (same ∙ e) ∙ take_at before text _ refl
 
 -- one turn of a loop that appends the text of each item, here word: ys are the items xs and then x
 pub one_more : {X : Type 0} (text : X → List ℕ) (before out word after : List ℕ) (xs ys : List X) (x : X) → ys ≡ xs ++ x ∷ [] → word ≡ text x → out ≡ before ++ flat_map text xs

@@ -1,11 +1,14 @@
-// Bytes appended to an output, of which every writer is made.
+// A text appended to an output, by which every writer ends.
+ghost use Rattle.std.specs.Prelude.{IfSome};
 ghost use Rattle.report.specs.Output.{Appends};
 
 use std::alloc::AllocError;
+use std::fmt::Display;
 
-// The bytes as they are.
-pub(crate) fn append(out: &mut Vec<u8>, text: &[u8]) -> Result<(), AllocError>
-    ensures { Appends result out.old.items text.now out.new.items }
+// What `{}` prints of the text.
+pub(crate) fn append<T: Display + Drop>(out: &mut Vec<u8>, text: T) -> Result<(), AllocError>
+    ensures { IfSome (T.output text) (λ bytes. Appends result out.old.items bytes out.new.items) }
 {
-    out.extend_from_slice(text)
+    let text = format!(in *out.allocator(); "{text}")?;
+    out.extend_from_slice(text.as_bytes())
 }

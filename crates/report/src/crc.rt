@@ -9,30 +9,25 @@ const POLYNOMIAL: u32 = 0xedb8_8320;
 pub fn crc32(pixels: &[u32]) -> u32
     ensures { result ≡ crcOf (bytes pixels.now) }
 {
-    let mut crc = 0xffff_ffff;
-    for pixel in pixels {
-        crc = feed_pixel(crc, *pixel);
-    }
-    crc ^ 0xffff_ffff
+    pixels
+        .iter()
+        .fold(0xffff_ffff, |crc, pixel| feed_pixel(crc, *pixel))
+        ^ 0xffff_ffff
 }
 
 // The register after the four bytes of a pixel.
 fn feed_pixel(crc: u32, pixel: u32) -> u32
     ensures { result ≡ fold fed crc (pixel_bytes pixel) }
 {
-    let [a, b, c, d] = pixel.to_le_bytes();
-    feed(feed(feed(feed(crc, a), b), c), d)
+    let bytes = pixel.to_le_bytes();
+    bytes.iter().fold(crc, |crc, byte| feed(crc, *byte))
 }
 
 // The register after one more byte.
 fn feed(crc: u32, byte: u8) -> u32
     ensures { result ≡ fed crc byte }
 {
-    let mut register = crc ^ u32::from(byte);
-    for _i in 0..8u8 {
-        register = shift(register);
-    }
-    register
+    (0..8u8).fold(crc ^ u32::from(byte), |register, _| shift(register))
 }
 
 // The register with its low bit shifted out.

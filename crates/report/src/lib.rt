@@ -4,8 +4,6 @@
 mod answer;
 mod append;
 mod crc;
-mod digits;
-mod fields;
 mod glass;
 mod ppm;
 

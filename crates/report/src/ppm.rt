@@ -1,12 +1,9 @@
 // A picture as a binary portable pixmap, P6.
 ghost use Rattle.std.specs.Prelude.{◌≡◌};
-ghost use Rattle.std.specs.List.{flat_map};
 ghost use Rattle.report.specs.Output.{Appends};
-ghost use Rattle.report.specs.Ppm.{header, channels as channelBytes, ppm as ppmOf};
+ghost use Rattle.report.specs.Ppm.{channels as channelBytes, ppm as ppmOf};
 
 use crate::append::append;
-use crate::digits::write_number;
-use crate::fields::write_field;
 use model::Size;
 use std::alloc::AllocError;
 
@@ -14,26 +11,10 @@ use std::alloc::AllocError;
 pub fn write_ppm(out: &mut Vec<u8>, size: Size, pixels: &[u32]) -> Result<(), AllocError>
     ensures { Appends result out.old.items (ppmOf size pixels.now) out.new.items }
 {
-    write_header(out, size)?;
-    write_pixels(out, pixels)
-}
-
-// The kind, the sides and the largest value of a channel.
-fn write_header(out: &mut Vec<u8>, size: Size) -> Result<(), AllocError>
-    ensures { Appends result out.old.items (header size) out.new.items }
-{
-    append(out, b"P6\n")?;
-    write_number(out, size.width)?;
-    write_field(out, size.height)?;
-    append(out, b"\n255\n")
-}
-
-// The channels of each pixel.
-fn write_pixels(out: &mut Vec<u8>, pixels: &[u32]) -> Result<(), AllocError>
-    ensures { Appends result out.old.items (flat_map channelBytes pixels.now) out.new.items }
-{
+    let Size { width, height } = size;
+    append(out, format_args!("P6\n{width} {height}\n255\n"))?;
     for pixel in pixels {
-        append(out, &channels(*pixel))?;
+        out.extend_from_slice(&channels(*pixel))?;
     }
     Ok(())
 }

@@ -1,14 +1,14 @@
 -- One more pixel in each turn.
-use Rattle.std.proofs.Common.{[], ◌∷◌, ◌++◌, get_or, ap, rules}
+use Rattle.std.proofs.Common.{[], ◌∷◌, ◌++◌, get_or, ap, ◌∙◌, rules}
 use Rattle.report.specs.Digits.{hex}
 use Rattle.report.specs.Report.{pixel_word}
-use Rattle.report.proofs.Appending.{front_kept, one_more, counting_more}
+use Rattle.report.proofs.Appending.{stops, one_more, counting_more}
 use Rattle.report.proofs.glass.write_rows.Goals as goal
 
-pub returns-in_err-write_hex : goal.returns-in_err-write_hex
-returns-in_err-write_hex c = search (rules, front_kept)
+pub returns-in_err-extend_from_slice : goal.returns-in_err-extend_from_slice
+returns-in_err-extend_from_slice c = search (rules, stops)
 
 pub loop-i-preserved : goal.loop-i-preserved
 loop-i-preserved c =
-    let word = ap (λ s. hex (get_or c.args.pixels.now c.loop-i.i 0) ++ (s ∷ [])) c.separator.ensures in
-    one_more (pixel_word c.args.width c.args.pixels.now) _ _ _ _ _ _ _ (counting_more c.loop-i.i) word c.loop-i.invariant c.in_ok-write_hex.ensures
+    let word = c.pixel_word.ensures ∙ ap (λ s. hex (get_or c.args.pixels.now c.loop-i.i 0) ++ s ∷ []) c.separator-end.ensures in
+    one_more (pixel_word c.args.width c.args.pixels.now) _ _ _ _ _ _ _ (counting_more c.loop-i.i) word c.loop-i.invariant c.in_ok-extend_from_slice.ensures.items
