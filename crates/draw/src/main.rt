@@ -1,134 +1,76 @@
 // Shows the scene of a file on a composer, and prints what stands on the glass.
 #![tactic(auto)]
 
+mod failure;
 mod options;
 mod output;
 mod show;
 
+use failure::Failure;
 use model::Size;
 use options::{HELP, Options, read_options};
-use output::{Report, report_scene};
+use output::report_scene;
 use report::write_ppm;
-use scene::{Console, parse_scene};
+use scene::parse_scene;
 use std::io::{Read, Write};
 use std::process::ExitCode;
 use std::{env, fs};
 
-// What is wrong has been printed.
-#[derive(Drop)]
-struct Stopped;
-
+// `replay` reads, prints and fails in nearly the same words. They are not shared: each is a line or two, and no contract of a
+// shared function could say what a file or a terminal gives.
 fn main(rt: HostRuntime) -> ExitCode {
     match run(&rt) {
         Ok(()) => ExitCode::SUCCESS,
-        Err(Stopped) => ExitCode::FAILURE,
+        Err(failure) => {
+            let _ = eprintln!(rt; "{failure}");
+            ExitCode::FAILURE
+        }
     }
 }
 
-fn run(rt: &HostRuntime) -> Result<(), Stopped> {
-    let Ok(args) = env::args(rt) else {
-        return stop(rt, "the arguments cannot be read");
-    };
-    match read_options(args) {
-        Ok(Options::Help) => {
+fn run(rt: &HostRuntime) -> Result<(), Failure> {
+    let args = env::args(rt).map_err(|_| Failure::Arguments)?;
+    match read_options(args)? {
+        Options::Help => {
             let _ = rt.print(HELP);
             Ok(())
         }
-        Ok(Options::Draw { scene, ppm }) => draw(rt, scene, ppm),
-        Err(misuse) => {
-            let _ = eprintln!(rt; "{misuse}; draw --help says what there is");
-            Err(Stopped)
-        }
+        Options::Draw { scene, ppm } => draw(rt, scene, ppm),
     }
 }
 
-fn stop(rt: &HostRuntime, why: &str) -> Result<(), Stopped> {
-    let _ = eprintln!(rt; "{why}");
-    Err(Stopped)
-}
-
-fn draw(rt: &HostRuntime, scene: Option<String>, ppm: Option<String>) -> Result<(), Stopped> {
+fn draw(rt: &HostRuntime, scene: Option<String>, ppm: Option<String>) -> Result<(), Failure> {
     let text = read_scene(rt, scene)?;
-    let file = match parse_scene(rt.alloc(), text.as_slice()) {
-        Ok(file) => file,
-        Err(bad) => {
-            let _ = eprintln!(rt; "{bad}");
-            return Err(Stopped);
-        }
-    };
-    match report_scene(rt.alloc(), &file) {
-        Ok(report) => print(rt, file.console, &report, ppm),
-        Err(_) => stop(
-            rt,
-            "out of memory for the pixel memory, the frame or the report",
-        ),
+    let file = parse_scene(rt.alloc(), text.as_slice())?;
+    let report = report_scene(rt.alloc(), &file).map_err(|_| Failure::NoReport)?;
+    // The PPM is written first, so that nothing is printed where it cannot be.
+    if let (Some(path), Some(glass)) = (ppm, &report.glass) {
+        save(rt, file.console.size, glass.as_slice(), path)?;
     }
+    rt.stdout()
+        .write_all(report.text.as_slice())
+        .map_err(Failure::Output)
 }
 
 // The text of the scene file, or of standard input.
-fn read_scene(rt: &HostRuntime, scene: Option<String>) -> Result<Vec<u8>, Stopped> {
+fn read_scene(rt: &HostRuntime, scene: Option<String>) -> Result<Vec<u8>, Failure> {
     match scene {
-        Some(path) => read_file(rt, path.as_str()),
-        None => read_input(rt),
-    }
-}
-
-fn read_file(rt: &HostRuntime, path: &str) -> Result<Vec<u8>, Stopped> {
-    match fs::read(rt, path) {
-        Ok(text) => Ok(text),
-        Err(error) => {
-            let _ = eprintln!(rt; "{path} cannot be read: {error}");
-            Err(Stopped)
+        Some(path) => {
+            fs::read(rt, path.as_str()).map_err(|error| Failure::Unreadable { path, error })
+        }
+        None => {
+            let mut text = Vec::new(rt.alloc());
+            rt.stdin().read_to_end(&mut text).map_err(Failure::Input)?;
+            Ok(text)
         }
     }
 }
 
-fn read_input(rt: &HostRuntime) -> Result<Vec<u8>, Stopped> {
-    let mut text = Vec::new(rt.alloc());
-    match rt.stdin().read_to_end(&mut text) {
-        Ok(_) => Ok(text),
-        Err(error) => {
-            let _ = eprintln!(rt; "standard input cannot be read: {error}");
-            Err(Stopped)
-        }
-    }
-}
-
-// The PPM is written first, so that nothing is printed where it cannot be.
-fn print(
-    rt: &HostRuntime,
-    console: Console,
-    report: &Report,
-    ppm: Option<String>,
-) -> Result<(), Stopped> {
-    if let Some(path) = &ppm {
-        if report.shown {
-            let size = Size {
-                width: console.width,
-                height: console.height,
-            };
-            save(rt, size, report.pixels.as_slice(), path.as_str())?;
-        }
-    }
-    match rt.stdout().write_all(report.text.as_slice()) {
-        Ok(()) => Ok(()),
-        Err(error) => {
-            let _ = eprintln!(rt; "standard output cannot be written: {error}");
-            Err(Stopped)
-        }
-    }
-}
-
-fn save(rt: &HostRuntime, size: Size, pixels: &[u32], path: &str) -> Result<(), Stopped> {
+fn save(rt: &HostRuntime, size: Size, glass: &[u32], path: String) -> Result<(), Failure> {
     let mut picture = Vec::new(rt.alloc());
-    if write_ppm(&mut picture, size, pixels).is_err() {
-        return stop(rt, "out of memory for the PPM");
-    }
-    match fs::write(rt, path, picture.as_slice()) {
-        Ok(()) => Ok(()),
-        Err(error) => {
-            let _ = eprintln!(rt; "{path} cannot be written: {error}");
-            Err(Stopped)
-        }
-    }
+    write_ppm(&mut picture, size, glass).map_err(|_| Failure::NoPpm)?;
+    fs::write(rt, path.as_str(), picture.as_slice()).map_err(|error| Failure::Unwritable {
+        path,
+        error,
+    })
 }

@@ -1,6 +1,6 @@
 // The words after the program's name.
 use std::env::Args;
-use std::fmt;
+use thiserror::Error;
 
 pub(crate) const HELP: &str = "draw [--ppm FILE] [SCENE]
 
@@ -11,7 +11,7 @@ Prints the answer and, if it is 0 0 0, the CRC-32 of the glass and its rows.
   --help        prints this
 ";
 
-#[derive(Drop)]
+#[derive(Debug, Drop)]
 pub(crate) enum Options {
     Help,
     Draw {
@@ -21,45 +21,28 @@ pub(crate) enum Options {
 }
 
 // What is wrong with the words.
-#[derive(Clone, Copy)]
+#[derive(Clone, Copy, PartialEq, Eq, Debug, Error)]
 pub(crate) enum Misuse {
+    #[error("an option that draw does not have")]
     UnknownOption,
+    #[error("--ppm wants a file")]
     NoPpmFile,
+    #[error("more than one scene file")]
     SecondScene,
-}
-
-impl fmt::Display for Misuse {
-    fn fmt<W: fmt::Write>(&self, f: &mut fmt::Formatter<W>) -> fmt::Result {
-        match *self {
-            Misuse::UnknownOption => write!(f, "an option that draw does not have"),
-            Misuse::NoPpmFile => write!(f, "--ppm wants a file"),
-            Misuse::SecondScene => write!(f, "more than one scene file"),
-        }
-    }
 }
 
 pub(crate) fn read_options(args: Args) -> Result<Options, Misuse> {
     let mut scene = None;
     let mut ppm = None;
-    let mut names_ppm = false;
-    for arg in args.skip(1) {
-        if names_ppm {
-            ppm = Some(arg);
-            names_ppm = false;
-        } else if arg.as_str() == "--help" {
-            return Ok(Options::Help);
-        } else if arg.as_str() == "--ppm" {
-            names_ppm = true;
-        } else if arg.as_str().starts_with("-") {
-            return Err(Misuse::UnknownOption);
-        } else if scene.is_some() {
-            return Err(Misuse::SecondScene);
-        } else {
-            scene = Some(arg);
+    let mut args = args.skip(1);
+    while let Some(arg) = args.next() {
+        match arg.as_str() {
+            "--help" => return Ok(Options::Help),
+            "--ppm" => ppm = Some(args.next().ok_or(Misuse::NoPpmFile)?),
+            word if word.starts_with("-") => return Err(Misuse::UnknownOption),
+            _ if scene.is_some() => return Err(Misuse::SecondScene),
+            _ => scene = Some(arg),
         }
-    }
-    if names_ppm {
-        return Err(Misuse::NoPpmFile);
     }
     Ok(Options::Draw { scene, ppm })
 }

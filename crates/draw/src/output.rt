@@ -1,28 +1,26 @@
 // What is printed of a scene file, made in memory.
-ghost use Rattle.std.specs.Prelude.{◌≡◌, ◌≤◌, true, length, replicate, IfOk};
-ghost use Rattle.model.specs.Output.{accepted};
+ghost use Rattle.std.specs.Prelude.{◌≡◌, ◌≤◌, Ok, Err, length, IfOk, IfErr};
+ghost use Rattle.list.specs.Written.{written};
 ghost use Rattle.model.specs.Scene.{picture};
 ghost use Rattle.raster.specs.Raster.{raster};
-ghost use Rattle.list.specs.Written.{written};
 ghost use Rattle.scene.specs.Items.{elements};
-ghost use Rattle.draw.specs.Report.{memory_of, shown_answer, shown_text, text_of, Reports};
-ghost use Rattle.report.specs.Output.{Appends};
+ghost use Rattle.report.specs.Report.{answer_line};
+ghost use Rattle.draw.specs.Report.{memory_of, shown_answer, text_of, Reports};
 
 use super::show::show_on;
 use composer::Composer;
 use list::Appender;
-use model::{Element, Fault};
+use model::{Element, Fault, Size};
 use raster::frame_length;
 use report::{write_answer, write_glass, write_rows};
-use scene::{Console, Item, SceneFile, collect_elements, fill_memory};
+use scene::{Item, SceneFile, collect_elements, fill_memory};
 use std::alloc::{AllocError, Global};
 
 // The text to print, and the glass itself if the scene was shown.
-#[derive(Drop)]
+#[derive(Debug, Drop)]
 pub(crate) struct Report {
     pub text: Vec<u8>,
-    pub shown: bool,
-    pub pixels: Vec<u32>,
+    pub glass: Option<Vec<u32>>,
 }
 
 // What stands in a place before an element is put there.
@@ -36,21 +34,16 @@ const NO_ELEMENT: Element = Element {
     format: 0,
 };
 
-fn zeros(heap: Global, n: usize) -> Result<Vec<u32>, AllocError>
-    ensures { IfOk result (λ v. v.items ≡ replicate n 0) }
+fn pixel_memory(heap: Global, file: &SceneFile) -> Result<Vec<u32>, AllocError>
+    ensures { IfOk result (λ v. v.items ≡ memory_of file.now.console file.now.items.items) }
 {
-    vec![in heap; 0; n]
-}
-
-fn pixel_memory(heap: Global, console: Console, items: &[Item]) -> Result<Vec<u32>, AllocError>
-    ensures { IfOk result (λ v. v.items ≡ memory_of console items.now) }
-{
-    let mut memory = zeros(heap, console.pixels as usize)?;
-    fill_memory(items, memory.as_mut_slice());
+    let mut memory = vec![in heap; 0; file.console.pixels as usize]?;
+    fill_memory(file.items.as_slice(), memory.as_mut_slice());
     Ok(memory)
 }
 
-// Puts the elements of a file into lent places, and answers how many there are.
+// Puts the elements of a file into lent places, by the list that appends as every list of the core, and answers how many
+// there are. A function of its own: of places that are lent where they are made, nothing is known afterwards.
 fn put_elements(items: &[Item], places: &mut [Element]) -> usize
     ensures { length items.now ≤ length places.old → (places.new ≡ written places.old (elements items.now)) × (result ≡ length (elements items.now)) }
 {
@@ -68,63 +61,56 @@ fn scene_elements(heap: Global, items: &[Item]) -> Result<Vec<Element>, AllocErr
     Ok(places)
 }
 
-// What a scene is answered, and the glass if it was shown.
+// The glass once a scene is shown on a composer, or why it is refused.
 fn show_scene(
     heap: Global,
-    console: Console,
+    size: Size,
     scene: &[Element],
     memory: &[u32],
-) -> Result<(Result<(), Fault>, Vec<u32>), AllocError>
-    ensures answer { IfOk result (λ x. x.0 ≡ shown_answer console scene.now (length memory.now)) }
-    ensures pixels { IfOk result (λ x. accepted x.0 ≡ true → x.1.items ≡ raster console.width console.height (picture scene.now memory.now)) }
+) -> Result<Result<Vec<u32>, Fault>, AllocError>
+    ensures shown { IfOk result (λ shown. IfOk shown (λ glass. shown_answer size scene.now (length memory.now) ≡ Ok tt)) }
+    ensures glass { IfOk result (λ shown. IfOk shown (λ glass. glass.items ≡ raster size (picture scene.now memory.now))) }
+    ensures refused { IfOk result (λ shown. IfErr shown (λ fault. shown_answer size scene.now (length memory.now) ≡ Err fault)) }
 {
-    let count = frame_length(console.width, console.height);
-    let mut frame = zeros(heap, count)?;
-    let mut pixels = zeros(heap, count)?;
-    let mut composer = Composer::new(frame.as_mut_slice(), console.width, console.height);
-    let answer = show_on(&mut composer, scene, memory, pixels.as_mut_slice());
-    Ok((answer, pixels))
-}
-
-fn write_shown(text: &mut Vec<u8>, width: u32, pixels: &[u32]) -> Result<(), AllocError>
-    ensures { Appends result text.old.items (shown_text width pixels.now) text.new.items }
-{
-    write_glass(text, pixels)?;
-    write_rows(text, pixels, width as usize)
+    let count = frame_length(size);
+    let mut frame = vec![in heap; 0; count]?;
+    let mut glass = vec![in heap; 0; count]?;
+    let mut composer = Composer::new(frame.as_mut_slice(), size);
+    let answer = show_on(&mut composer, scene, memory, glass.as_mut_slice());
+    Ok(answer.map(|()| glass))
 }
 
 fn report_text(
     heap: Global,
     width: u32,
-    answer: &Result<(), Fault>,
-    pixels: &[u32],
+    shown: &Result<Vec<u32>, Fault>,
 ) -> Result<Vec<u8>, AllocError>
-    ensures { IfOk result (λ v. v.items ≡ text_of width answer.now pixels.now) }
+    ensures shown { IfOk shown.now (λ glass. IfOk result (λ v. v.items ≡ text_of width (Ok tt) glass.items)) }
+    ensures refused { IfErr shown.now (λ fault. IfOk result (λ v. v.items ≡ answer_line (Err fault))) }
 {
     let mut text = Vec::new(heap);
-    write_answer(&mut text, answer)?;
-    match answer {
-        Ok(_) => {
-            write_shown(&mut text, width, pixels)?;
-            Ok(text)
+    match shown {
+        Ok(glass) => {
+            write_answer(&mut text, &Ok(()))?;
+            write_glass(&mut text, glass)?;
+            write_rows(&mut text, glass, width as usize)?;
         }
-        Err(_) => Ok(text),
+        Err(fault) => write_answer(&mut text, &Err(*fault))?,
     }
+    Ok(text)
 }
 
 // Shows the scene of a file on a composer, and says what stands on the glass.
 pub(crate) fn report_scene(heap: Global, file: &SceneFile) -> Result<Report, AllocError>
     ensures { IfOk result (Reports file.now.console file.now.items.items) }
 {
-    let items = file.items.as_slice();
-    let memory = pixel_memory(heap, file.console, items)?;
-    let scene = scene_elements(heap, items)?;
-    let (answer, pixels) = show_scene(heap, file.console, scene.as_slice(), memory.as_slice())?;
-    let text = report_text(heap, file.console.width, &answer, pixels.as_slice())?;
-    let shown = answer.is_ok();
+    let memory = pixel_memory(heap, file)?;
+    let scene = scene_elements(heap, file.items.as_slice())?;
+    let size = file.console.size;
+    let shown = show_scene(heap, size, scene.as_slice(), memory.as_slice())?;
+    let text = report_text(heap, size.width, &shown)?;
     Ok(Report {
         text,
-        shown,
-        pixels,
+        glass: shown.ok(),
     })
 }

@@ -1,3 +1,4 @@
+-- There are as many places as items, so each element finds one.
 use Rattle.std.proofs.Common.{◌≤◌, length, arith, rules}
 use Rattle.list.proofs.Laws.{appended_all}
 use Rattle.scene.specs.Items.{elements}
