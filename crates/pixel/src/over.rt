@@ -37,7 +37,7 @@ pub fn opaque(s: u32) -> u32
     u32::from_be_bytes([255, red, green, blue])
 }
 
-// A pixel of an element laid on the pixel below it. An element in a format that is none replaces it too.
+// A pixel of an element laid on the pixel below it; in a number that is no format's, it is laid as an opaque one.
 pub fn lay(e: &Element, s: u32, d: u32) -> u32
     ensures { result ≡ laid e.now s d }
 {

@@ -11,7 +11,7 @@ pub(crate) struct Run {
 
 // What of the `n` places from `p` on lies below `limit`.
 pub(crate) fn clip(p: i32, n: usize, limit: usize) -> Run
-    ensures { Clipped p n limit result.from result.skip result.count }
+    ensures { Clipped p n limit result }
 {
     if p >= 0 {
         let from = (p as usize).min(limit);
