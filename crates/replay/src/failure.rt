@@ -1,5 +1,6 @@
 // Why the program fails, in the words that it prints.
 use super::options::Misuse;
+use std::alloc::AllocError;
 use std::io;
 use text::BadLine;
 use thiserror::Error;
@@ -16,7 +17,7 @@ pub(crate) enum Failure {
     #[error(transparent)]
     Recording(#[from] BadLine),
     #[error("out of memory for the listing")]
-    NoListing,
+    NoListing(#[from] AllocError),
     #[error("standard output cannot be written: {0}")]
     Output(io::Error),
 }

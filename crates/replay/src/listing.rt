@@ -65,6 +65,7 @@ fn write_message<W: fmt::Write>(f: &mut fmt::Formatter<W>, message: &[u8]) -> fm
     let opcode = message.opcode();
     let size = message.size();
     write!(f, "object {object} opcode {opcode} size {size}")?;
+    // There are fewer words than bytes.
     for word in (0..usize::from(size)).map_while(|i| message.argument_word(i)) {
         write!(f, " {word}")?;
     }

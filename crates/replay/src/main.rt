@@ -40,8 +40,6 @@ fn print(rt: &HostRuntime, text: &str) -> Result<(), Failure> {
 fn list(rt: &HostRuntime, path: String) -> Result<(), Failure> {
     let text = fs::read(rt, path.as_str()).map_err(|error| Failure::Unreadable { path, error })?;
     let recording = parse_recording(rt.alloc(), text.as_slice())?;
-    let listing = list_calls(rt.alloc(), recording.entries.as_slice()).map_err(
-        |_| Failure::NoListing,
-    )?;
+    let listing = list_calls(rt.alloc(), recording.entries.as_slice())?;
     print(rt, listing.as_str())
 }

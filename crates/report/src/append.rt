@@ -1,4 +1,4 @@
-// A text appended to an output, by which every writer ends.
+// A printed text, appended to an output.
 ghost use Rattle.std.specs.Prelude.{IfSome};
 ghost use Rattle.report.specs.Output.{Appends};
 

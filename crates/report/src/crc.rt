@@ -9,6 +9,7 @@ const POLYNOMIAL: u32 = 0xedb8_8320;
 pub fn crc32(pixels: &[u32]) -> u32
     ensures { result ≡ crcOf (bytes pixels.now) }
 {
+    // By pixels, since a `flat_map` over their bytes takes twice as long.
     pixels
         .iter()
         .fold(0xffff_ffff, |crc, pixel| feed_pixel(crc, *pixel))

@@ -13,6 +13,7 @@ pub fn write_ppm(out: &mut Vec<u8>, size: Size, pixels: &[u32]) -> Result<(), Al
 {
     let Size { width, height } = size;
     append(out, format_args!("P6\n{width} {height}\n255\n"))?;
+    // One `extend` by a `flat_map` over the channels takes four times as long.
     for pixel in pixels {
         out.extend_from_slice(&channels(*pixel))?;
     }
