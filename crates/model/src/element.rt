@@ -2,7 +2,7 @@
 
 // Copied freely: a presenter is lent a slice of elements and may keep some of them.
 // The format is a number, since a presenter has to refuse what no buffer has.
-#[derive(Clone, Copy, PartialEq, Eq, Debug)]
+#[derive(Clone, Copy, PartialEq, Eq, Debug, Default)]
 pub struct Element {
     // The output column and row of the top left pixel.
     pub x: i32,

@@ -5,6 +5,7 @@ ghost use Rattle.model.specs.Fault.{fault_text, fault_of};
 use super::refusal::Refusal;
 use std::fmt;
 
+// Three numbers, as a client is told it; code says what it refuses by a `Refusal`.
 #[derive(Clone, Copy, PartialEq, Eq, Debug)]
 pub struct Fault {
     // Which refusal it is.
@@ -40,9 +41,6 @@ impl fmt::Display for Fault {
     ghost output = { λ f. Some (fault_text f) };
 
     fn fmt<W: fmt::Write>(&self, f: &mut fmt::Formatter<W>) -> fmt::Result {
-        let number = self.number;
-        let station = self.station;
-        let word = self.word;
-        write!(f, "{number} {station} {word}")
+        write!(f, "{} {} {}", self.number, self.station, self.word)
     }
 }
