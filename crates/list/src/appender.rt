@@ -17,7 +17,7 @@ impl<'a, T: Copy> Appender<'a, T> {
         ensures places { result.places.now ≡ places.old }
         ensures lender { result.places.ghost_name ≡ places.entry.ghost_name }
     {
-        Appender { places, count: 0 }
+        Appender::resume(places, 0)
     }
 
     // A list over places of which the first `count` are filled.

@@ -1,6 +1,7 @@
 // Finding a record by a key, once for every kind of record and every kind of key.
 ghost use Rattle.std.specs.Prelude.{◌≡◌, ◌<◌, Bool, length, is_some, IfSome};
-ghost use Rattle.list.specs.Place.{place, any};
+ghost use Rattle.std.specs.List.{list_any};
+ghost use Rattle.list.specs.Place.{place};
 
 // A record that may bear a key.
 pub trait Keyed<K> {
@@ -14,7 +15,7 @@ pub trait Keyed<K> {
 pub fn find<K, R: Keyed<K>>(records: &[R], key: &K) -> Option<usize>
     ensures first { result ≡ place (R.bearer key.now) records.now }
     ensures within { IfSome result (λ i. i < length records.now) }
-    ensures found { is_some result ≡ any (R.bearer key.now) records.now }
+    ensures found { is_some result ≡ list_any (R.bearer key.now) records.now }
 {
     records.iter().position(|record| record.bears(key))
 }

@@ -35,7 +35,8 @@ impl<'m> Message<'m> {
     }
 }
 
-// The header of a message, if there is one, and what follows it.
+// The header of a message, if there is one, and what follows it. The rules take it as two words, so the pattern names their
+// eight bytes, and the size and the opcode are the halves of the second.
 fn split_header(bytes: &[u8]) -> (Option<Header>, &[u8])
     ensures header { result.0 ≡ header_of bytes.now }
     ensures body { result.1.now ≡ body_of bytes.now }
@@ -58,9 +59,8 @@ fn split_header(bytes: &[u8]) -> (Option<Header>, &[u8])
 fn check_header(header: Option<Header>, body: &[u8]) -> Result<Header, Fault>
     ensures { result ≡ header_answer header body.now }
 {
-    let header = header.ok_or(Refusal::BadHeader)?;
-    if usize::from(header.size) != body.len() + 8 || header.size % 4 != 0 {
-        return Err(Refusal::BadHeader.into());
-    }
+    let header = header
+        .filter(|header| usize::from(header.size) == body.len() + 8 && header.size % 4 == 0)
+        .ok_or(Refusal::BadHeader)?;
     Ok(header)
 }

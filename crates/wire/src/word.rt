@@ -7,6 +7,7 @@ ghost use Rattle.model.specs.Word.{words, int};
 use model::{Fault, Refusal};
 
 // The signed number that a word stands for: the cast, said once in the words that requests are described by.
+#[tactic(auto, unfolding(model::specs::Word::int))]
 pub(crate) fn to_int(word: u32) -> i32
     ensures { result ≡ int word }
 {
@@ -29,6 +30,7 @@ pub(crate) fn arguments<const N: usize>(body: &[u8]) -> Result<[u32; N], Fault>
     if chunks.len() != N {
         return Err(Refusal::BadArguments.into());
     }
+    // By place: the library's `map` for arrays owes that five times `N` fits, and what is written through `zip` is not known.
     let mut words = [0; N];
     for (i, chunk) in chunks.iter().enumerate() {
         words[i] = u32::from_le_bytes(*chunk);
