@@ -1,5 +1,6 @@
 // A recording's text as values.
 ghost use Rattle.std.specs.Prelude.{◌≡◌};
+ghost use Rattle.text.specs.Lines.{lines_left};
 ghost use Rattle.text.specs.Told.{Gives, GivesFile};
 ghost use Rattle.recording.specs.Content.{plain_entries};
 ghost use Rattle.recording.specs.Recording.{after_line, entries_after, recording_of};
@@ -35,7 +36,7 @@ fn add_line(
 
 // The entries of the lines that follow the console's.
 fn read_entries(heap: Global, lines: Lines<'_>, entries: &mut Vec<Entry>) -> Result<(), BadLine>
-    ensures { GivesFile (λ _. plain_entries entries.new.items) result (entries_after lines.entry.before 160 (plain_entries entries.old.items) lines.entry.lines) }
+    ensures { GivesFile (λ _. plain_entries entries.new.items) result (entries_after lines.entry.before 160 (plain_entries entries.old.items) (lines_left lines.entry)) }
 {
     let mut places = FIRST_PLACES;
     for (line, text) in lines {

@@ -1,5 +1,6 @@
 // A scene file's text as values.
 ghost use Rattle.std.specs.Prelude.{◌≡◌};
+ghost use Rattle.text.specs.Lines.{lines_left};
 ghost use Rattle.text.specs.Told.{Gives, GivesFile};
 ghost use Rattle.scene.specs.Scene.{item_line, items_after, scene_of};
 
@@ -23,7 +24,7 @@ fn item_line(mut line: Words<'_>, memory: u32, items: &mut Vec<Item>) -> Result<
 
 // The items of the lines that follow the console's.
 fn read_items(lines: Lines<'_>, memory: u32, items: &mut Vec<Item>) -> Result<(), BadLine>
-    ensures { GivesFile (λ _. items.new.items) result (items_after memory lines.entry.before items.old.items lines.entry.lines) }
+    ensures { GivesFile (λ _. items.new.items) result (items_after memory lines.entry.before items.old.items (lines_left lines.entry)) }
 {
     for (line, text) in lines {
         item_line(Words::of(text), memory, items).map_err(|problem| BadLine { line, problem })?;

@@ -1,5 +1,5 @@
 -- The lines of a text.
-use Rattle.std.specs.Prelude.{◌≡◌, ℕ, ◌+◌, cond, List, [], ◌∷◌, ◌++◌, Some, None, Option, MatchOption}
+use Rattle.std.specs.Prelude.{◌≡◌, ℕ, ◌+◌, ◌<◌, cond, length, List, [], ◌∷◌, ◌++◌, Some, None, Option, MatchOption}
 use Rattle.std.specs.Borrow.{Bor}
 use Rattle.text.specs.Bytes.{newline}
 
@@ -16,16 +16,19 @@ lines_on front (b ∷ bs) = cond (newline b) (front ∷ lines_on [] bs) (lines_o
 abbrev pub lines : List ℕ → List (List ℕ)
 lines text = lines_on [] text
 
--- the lines that are left of a text, and how many came before them
+-- what is left of a text, and how many lines came before it
 pub record LinesLeft : Type 0 where
   pub before : ℕ
-  pub lines : List (List ℕ)
+  pub text : List ℕ
 
--- the first line that was left comes, with its number, and the others stay
+abbrev pub lines_left : LinesLeft → List (List ℕ)
+lines_left left = lines left.text
+
+-- the first line that was left comes, with its number, and the others stay, in fewer bytes
 abbrev pub NextLine : LinesLeft → Option (ℕ × Bor (List ℕ)) → LinesLeft → Type 0
 NextLine left next after =
-    MatchOption next ((left.lines ≡ []) × (after.lines ≡ [])) λ found.
-    (found.0 ≡ left.before + 1) × (after.before ≡ left.before + 1) × (left.lines ≡ found.1.now ∷ after.lines)
+    MatchOption next ((lines_left left ≡ []) × (lines_left after ≡ [])) λ found.
+    (found.0 ≡ left.before + 1) × (after.before ≡ left.before + 1) × (length after.text < length left.text) × (lines_left left ≡ found.1.now ∷ lines_left after)
 
 -- the first of some lines or words, and those after it
 abbrev pub first_of : {A : Type 0} → List A → Option A

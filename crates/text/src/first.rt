@@ -1,6 +1,6 @@
 // The first line of a file that has a word.
-ghost use Rattle.std.specs.Prelude.{◌≡◌, IfOk, Ok, Err, MatchResult};
-ghost use Rattle.text.specs.Lines.{lines};
+ghost use Rattle.std.specs.Prelude.{◌≡◌, ◌+◌, ◌≤◌, length, IfOk, Ok, Err, MatchResult};
+ghost use Rattle.text.specs.Lines.{lines, lines_left};
 ghost use Rattle.text.specs.First.{first_line};
 
 use super::lines::Lines;
@@ -9,7 +9,8 @@ use super::words::Words;
 
 // Its number, the line and the lines after it. A text without one is named by its last line.
 pub fn first_line(text: &[u8]) -> Result<(usize, &[u8], Lines<'_>), BadLine>
-    ensures value { MatchResult result (λ found. first_line 0 (lines text.now) ≡ Ok (found.0, found.1.now, found.2.lines)) (λ bad. first_line 0 (lines text.now) ≡ Err bad) }
+    ensures value { MatchResult result (λ found. first_line 0 (lines text.now) ≡ Ok (found.0, found.1.now, lines_left found.2)) (λ bad. first_line 0 (lines text.now) ≡ Err bad) }
+    ensures bound { IfOk result (λ found. found.0 + length found.2.text ≤ length text.now) }
     ensures numbers { IfOk result (λ found. found.2.before ≡ found.0) }
 {
     let mut lines = Lines::of(text);

@@ -39,18 +39,18 @@ pub struct Lines<'a> {
 
 impl<'a> Model for Lines<'a> {
     ghost use Rattle.std.specs.Prelude.{◌+◌, ◌^◌, ◌<◌, length};
-    ghost use Rattle.text.specs.Lines.{LinesLeft, lines};
+    ghost use Rattle.text.specs.Lines.{LinesLeft};
 
     ghost Value = { LinesLeft };
 
-    ghost view = { λ l. record { before = l.before; lines = lines l.rest.now } };
+    ghost view = { λ l. record { before = l.before; text = l.rest.now } };
 
     ghost invariant = { λ l. l.before + length l.rest.now < 2 ^ 64 };
 }
 
 impl<'a> Lines<'a> {
     pub fn of(text: &'a [u8]) -> Lines<'a>
-        ensures { result ≡ record { before = 0; lines = lines text.now } }
+        ensures { result ≡ record { before = 0; text = text.now } }
     {
         Lines {
             rest: text,
@@ -65,7 +65,7 @@ impl<'a> Iterator for Lines<'a> {
 
     ghost next_gives = { NextLine };
 
-    ghost remaining = { λ left. at_most (length left.lines) };
+    ghost remaining = { λ left. at_most (length left.text) };
 
     fn next(&mut self) -> Option<(usize, &'a [u8])> {
         let (line, rest) = split_line(self.rest)?;
