@@ -1,12 +1,9 @@
 -- One more pixel in each turn.
-use Rattle.std.proofs.Common.{[], ◌∷◌, ◌++◌, get_or, ap, ◌∙◌, rules}
+use Rattle.std.proofs.Common.{[], ◌∷◌, ◌++◌, get_or, ap, ◌∙◌}
 use Rattle.report.specs.Digits.{hex}
 use Rattle.report.specs.Report.{pixel_word}
-use Rattle.report.proofs.Appending.{stops, one_more, counting_more}
+use Rattle.report.proofs.Appending.{one_more, counting_more}
 use Rattle.report.proofs.glass.write_rows.Goals as goal
-
-pub returns-in_err-extend_from_slice : goal.returns-in_err-extend_from_slice
-returns-in_err-extend_from_slice c = search (rules, stops)
 
 pub loop-i-preserved : goal.loop-i-preserved
 loop-i-preserved c =
