@@ -72,6 +72,16 @@ fn with_signed_numbers(rt: HostRuntime) -> Result<(), Fail> {
                 },
             },
             Case {
+                bytes: b"\x07\0\0\0\x01\0\x14\0\0\0\0\0\0\0\0\0\0\0\0\0",
+                object: 7,
+                interface: Interface::Surface,
+                request: Request::Attach {
+                    buffer: None,
+                    x: 0,
+                    y: 0,
+                },
+            },
+            Case {
                 bytes: b"\x08\0\0\0\x01\0\x10\0\x00\xc0\xff\xff\x00\x40\0\0",
                 object: 8,
                 interface: Interface::Subsurface,
