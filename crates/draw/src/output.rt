@@ -23,17 +23,6 @@ pub(crate) struct Report {
     pub glass: Option<Vec<u32>>,
 }
 
-// What stands in a place before an element is put there.
-const NO_ELEMENT: Element = Element {
-    x: 0,
-    y: 0,
-    first: 0,
-    width: 0,
-    height: 0,
-    stride: 0,
-    format: 0,
-};
-
 fn pixel_memory(heap: Global, file: &SceneFile) -> Result<Vec<u32>, AllocError>
     ensures { IfOk result (λ v. v.items ≡ memory_of file.now.console file.now.items.items) }
 {
@@ -42,8 +31,8 @@ fn pixel_memory(heap: Global, file: &SceneFile) -> Result<Vec<u32>, AllocError>
     Ok(memory)
 }
 
-// Puts the elements of a file into lent places, by the list that appends as every list of the core, and answers how many
-// there are. A function of its own: of places that are lent where they are made, nothing is known afterwards.
+// Puts the elements of a file into lent places, and answers how many there are. By the list that appends, and not by a `Vec`'s
+// own push: scene elements are listed by that one list everywhere.
 fn put_elements(items: &[Item], places: &mut [Element]) -> usize
     ensures { length items.now ≤ length places.old → (places.new ≡ written places.old (elements items.now)) × (result ≡ length (elements items.now)) }
 {
@@ -55,7 +44,7 @@ fn put_elements(items: &[Item], places: &mut [Element]) -> usize
 fn scene_elements(heap: Global, items: &[Item]) -> Result<Vec<Element>, AllocError>
     ensures { IfOk result (λ v. v.items ≡ elements items.now) }
 {
-    let mut places = vec![in heap; NO_ELEMENT; items.len()]?;
+    let mut places = vec![in heap; Element::default(); items.len()]?;
     let count = put_elements(items, places.as_mut_slice());
     places.truncate(count);
     Ok(places)
