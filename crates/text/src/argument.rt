@@ -5,7 +5,7 @@ ghost use Rattle.text.specs.Lines.{first_of, after_first};
 
 use super::number::Number;
 use super::problem::{Argument, Problem};
-use super::words::{Words, is_text};
+use super::words::Words;
 
 impl Words<'_> {
     // The next word as a number, of the type that the caller wants.
@@ -23,7 +23,7 @@ impl Words<'_> {
         ensures value { result ≡ fixed_word text.now problem (first_of self.old) }
         ensures left { self.new ≡ after_first self.old }
     {
-        if self.next().is_some_and(|word| is_text(word, text)) {
+        if self.next().is_some_and(|word| word == text) {
             Ok(())
         } else {
             Err(problem)

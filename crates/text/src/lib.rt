@@ -15,4 +15,4 @@ pub use lines::Lines;
 pub use number::{Number, digit_value};
 pub use pixel::read_pixels;
 pub use problem::{Argument, BadLine, Problem};
-pub use words::{Words, is_text};
+pub use words::Words;

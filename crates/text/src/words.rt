@@ -2,18 +2,10 @@
 ghost use Rattle.std.specs.Prelude.{◌≡◌, ◌≤◌, ◌<◌, [], ◌∷◌, length, IfSome, MatchOption};
 ghost use Rattle.std.specs.List.{prefix_len};
 ghost use Rattle.std.specs.Iterator.{YieldsFirstBy, item_count};
-ghost use Rattle.std.specs.Str.{bytes_eq};
 ghost use Rattle.text.specs.Bytes.{blank, in_word};
 ghost use Rattle.text.specs.Words.{words};
 
 use std::marker::Model;
-
-// Whether a word is this text.
-pub fn is_text(word: &[u8], text: &[u8]) -> bool
-    ensures { result ≡ bytes_eq word.now text.now }
-{
-    word == text
-}
 
 // Whether a byte stands between words.
 fn is_blank(byte: u8) -> bool
@@ -47,10 +39,7 @@ fn split_word(line: &[u8]) -> Option<(&[u8], &[u8])>
 {
     let (_, line) = line.split_at(blanks(line));
     let (word, rest) = line.split_at(word_length(line));
-    if word.is_empty() {
-        return None;
-    }
-    Some((word, rest))
+    (!word.is_empty()).then_some((word, rest))
 }
 
 // The words that are left of a line.
