@@ -35,6 +35,7 @@ pub(crate) fn read_number(word: &[u8], base: u8, most: u32) -> Option<u32>
     if word.is_empty() {
         return None;
     }
+    // As a `try_fold` the goal stayed open: its clause tells of the turns by what the calls did.
     let mut n = 0;
     for byte in word {
         n = with_digit(n, *byte, base, most)?;
