@@ -74,6 +74,7 @@ impl fmt::Display for Argument {
     }
 }
 
+// Written out, since what it says is a promise: a Display that thiserror derives has no contract.
 impl fmt::Display for Problem {
     ghost output = { λ problem. Some (problem_subject problem ++ problem_text problem) };
 
@@ -115,9 +116,7 @@ impl fmt::Display for BadLine {
     ghost output = { λ b. Some (bad_line_text b) };
 
     fn fmt<W: fmt::Write>(&self, f: &mut fmt::Formatter<W>) -> fmt::Result {
-        let line = self.line;
-        let problem = self.problem;
-        write!(f, "line {line}: {problem}")
+        write!(f, "line {}: {}", self.line, self.problem)
     }
 }
 
