@@ -6,5 +6,5 @@ use Rattle.scene.specs.Items.{elements}
 
 pub few_elements : (items : List Item) → length (elements items) ≤ length items
 few_elements [] = omega arith
-few_elements (Fill first count pixel ∷ items) = let h = few_elements items in omega arith
+few_elements (Fill first run ∷ items) = let h = few_elements items in omega arith
 few_elements (Element e ∷ items) = let h = few_elements items in omega arith

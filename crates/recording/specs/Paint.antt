@@ -10,5 +10,5 @@ use Rattle.text.specs.Pixel.{pixels_of}
 abbrev pub paint_pixels : List ℕ → List (List ℕ) → Result (List ℕ) Problem
 paint_pixels so_far [] = Ok so_far
 paint_pixels so_far (word ∷ ws) =
-    and_then (ok_or (pixels_of word) PixelForm) λ pixels.
-    paint_pixels (so_far ++ replicate pixels.0 pixels.1) ws
+    and_then (ok_or (pixels_of word) PixelForm) λ run.
+    paint_pixels (so_far ++ replicate run.count run.pixel) ws

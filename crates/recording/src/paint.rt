@@ -12,8 +12,8 @@ pub(crate) fn paint_pixels(heap: Global, line: Words<'_>) -> Result<Vec<u32>, Pr
 {
     let mut pixels = Vec::new(heap);
     for word in line {
-        let (count, pixel) = read_pixels(word).ok_or(Problem::PixelForm)?;
-        pixels.resize(pixels.len() + count as usize, pixel)?;
+        let run = read_pixels(word).ok_or(Problem::PixelForm)?;
+        pixels.resize(pixels.len() + run.count as usize, run.pixel)?;
     }
     Ok(pixels)
 }

@@ -5,6 +5,7 @@ use Rattle.std.specs.List.{AllByRecursion}
 use Rattle.std.specs.Str.{bytes_eq}
 use Rattle.std.proofs.ByRecursion.{All-push}
 use Rattle.std.proofs.lemmas.Bool.{ltb-false}
+use Rattle.text.specs.declared.pixel.PixelRun.{PixelRun}
 use Rattle.text.specs.declared.problem.Argument.TheVariants.{First}
 use Rattle.text.specs.declared.problem.BadLine.{BadLine}
 use Rattle.text.specs.declared.problem.Problem.{Problem}
@@ -43,19 +44,19 @@ never_ok true x y a e = cc
 never_ok false x y a e = cc
 
 module _ (n : ℕ) where
-  placed_fits : (first : ℕ) (word : List ℕ) (p : ℕ × ℕ) → placed_pixels n first word ≡ Ok p → first + p.0 ≤ n
-  placed_fits first word p e =
-      let found = and_then_ok (ok_or (pixels_of word) PixelForm) _ p e in
-      let inside = cond_ok (ltb n (first + found.0.0)) PixelsPastEnd (Ok found.0) p found.2 in
-      let same : found.0 ≡ p = cc in
-      let low = ltb-false n (first + found.0.0) inside.0 in
-      subst (λ (q : ℕ × ℕ). first + q.0 ≤ n) same low
+  placed_fits : (first : ℕ) (word : List ℕ) (run : PixelRun) → placed_pixels n first word ≡ Ok run → first + run.count ≤ n
+  placed_fits first word run e =
+      let found = and_then_ok (ok_or (pixels_of word) PixelForm) _ run e in
+      let inside = cond_ok (ltb n (first + found.0.count)) PixelsPastEnd (Ok found.0) run found.2 in
+      let same : found.0 ≡ run = cc in
+      let low = ltb-false n (first + found.0.count) inside.0 in
+      subst (λ (r : PixelRun). first + r.count ≤ n) same low
 
   fills_fit : (ws : List (List ℕ)) (first : ℕ) (so_far items : List Item) → AllByRecursion (Fits n) so_far → fills n first so_far ws ≡ Ok items → AllByRecursion (Fits n) items
   fills_fit [] first so_far items h e = let same : so_far ≡ items = cc in subst (AllByRecursion (Fits n)) same h
   fills_fit (word ∷ ws) first so_far items h e =
       let found = and_then_ok (placed_pixels n first word) _ items e in
-      fills_fit ws _ _ items (All-push (Fits n) so_far (Fill first found.0.0 found.0.1) h (placed_fits first word found.0 found.1)) found.2
+      fills_fit ws _ _ items (All-push (Fits n) so_far (Fill first found.0) h (placed_fits first word found.0 found.1)) found.2
 
   item_fit : (o : Option (List ℕ)) (ws : List (List ℕ)) (so_far items : List Item) → AllByRecursion (Fits n) so_far → item_by n so_far o ws ≡ Ok items → AllByRecursion (Fits n) items
   item_fit None ws so_far items h e = let same : so_far ≡ items = cc in subst (AllByRecursion (Fits n)) same h

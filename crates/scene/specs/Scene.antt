@@ -13,23 +13,23 @@ use Rattle.text.specs.Lines.{lines, first_of, after_first}
 use Rattle.text.specs.Words.{words}
 use Rattle.scene.specs.SceneLine.{console_line, pixels_line, element_line}
 
--- a line after the console's, by its first word and those after it
+-- a line after the console's, by its first word and those after it, where the pixel memory has that many pixels
 abbrev pub item_by : ℕ → List Item → Option (List ℕ) → List (List ℕ) → Result (List Item) Problem
-item_by memory so_far None ws = Ok so_far
-item_by memory so_far (Some word) ws =
-    cond (bytes_eq word (codes "pixels")) (pixels_line memory so_far ws)
+item_by pixels so_far None ws = Ok so_far
+item_by pixels so_far (Some word) ws =
+    cond (bytes_eq word (codes "pixels")) (pixels_line pixels so_far ws)
     (cond (bytes_eq word (codes "element")) (and_then (element_line ws) (λ element. Ok (so_far ++ Element element ∷ [])))
     (cond (bytes_eq word (codes "console")) (Err SecondConsole) (Err UnknownLine)))
 
 abbrev pub item_line : ℕ → List Item → List (List ℕ) → Result (List Item) Problem
-item_line memory so_far ws = item_by memory so_far (first_of ws) (after_first ws)
+item_line pixels so_far ws = item_by pixels so_far (first_of ws) (after_first ws)
 
 -- the items of the lines after the first n
 abbrev pub items_after : ℕ → ℕ → List Item → List (List ℕ) → Result (List Item) BadLine
-items_after memory n so_far [] = Ok so_far
-items_after memory n so_far (l ∷ ls) =
-    and_then (on_line (n + 1) (item_line memory so_far (words l))) λ more.
-    items_after memory (n + 1) more ls
+items_after pixels n so_far [] = Ok so_far
+items_after pixels n so_far (l ∷ ls) =
+    and_then (on_line (n + 1) (item_line pixels so_far (words l))) λ more.
+    items_after pixels (n + 1) more ls
 
 -- the console and the items of a text, or its first bad line
 abbrev pub scene_of : List ℕ → Result (Console × List Item) BadLine

@@ -2,6 +2,7 @@
 use Rattle.std.specs.Prelude.{ℕ, ◌+◌, cond, List, [], ◌∷◌, ◌++◌, Ok, Err, codes, Result, nat_lt}
 use Rattle.std.specs.Option.{ok_or}
 use Rattle.model.specs.declared.element.Element.{Element}
+use Rattle.text.specs.declared.pixel.PixelRun.{PixelRun}
 use Rattle.text.specs.declared.problem.Argument.TheVariants.{X, Y, First, Width, Height, Stride, Format, Pixels}
 use Rattle.text.specs.declared.problem.Problem.{Problem}
 use Rattle.text.specs.declared.problem.Problem.TheVariants.{SceneStart, PixelForm, PixelsPastEnd}
@@ -35,21 +36,21 @@ element_line ws =
     reading line_end ws λ _ _.
     Ok (record { x = x; y = y; first = first; width = width; height = height; stride = stride; format = format })
 
--- how many pixels a word writes, and which, where they fit a memory from the place first on
-abbrev pub placed_pixels : ℕ → ℕ → List ℕ → Result (ℕ × ℕ) Problem
-placed_pixels memory first word =
-    and_then (ok_or (pixels_of word) PixelForm) λ pixels.
-    cond (nat_lt memory (first + pixels.0)) (Err PixelsPastEnd) (Ok pixels)
+-- the pixels that a word writes, where they fit a memory of that many pixels from the place first on
+abbrev pub placed_pixels : ℕ → ℕ → List ℕ → Result PixelRun Problem
+placed_pixels pixels first word =
+    and_then (ok_or (pixels_of word) PixelForm) λ run.
+    cond (nat_lt pixels (first + run.count)) (Err PixelsPastEnd) (Ok run)
 
 -- PIXEL.. to the places from first on, after the items so far
 abbrev pub fills : ℕ → ℕ → List Item → List (List ℕ) → Result (List Item) Problem
-fills memory first so_far [] = Ok so_far
-fills memory first so_far (word ∷ ws) =
-    and_then (placed_pixels memory first word) λ pixels.
-    fills memory (first + pixels.0) (so_far ++ Fill first pixels.0 pixels.1 ∷ []) ws
+fills pixels first so_far [] = Ok so_far
+fills pixels first so_far (word ∷ ws) =
+    and_then (placed_pixels pixels first word) λ run.
+    fills pixels (first + run.count) (so_far ++ Fill first run ∷ []) ws
 
 -- FIRST PIXEL..
 abbrev pub pixels_line : ℕ → List Item → List (List ℕ) → Result (List Item) Problem
-pixels_line memory so_far ws =
+pixels_line pixels so_far ws =
     reading (unsigned_argument First) ws λ first ws.
-    fills memory first so_far ws
+    fills pixels first so_far ws

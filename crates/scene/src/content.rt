@@ -1,5 +1,6 @@
 // What a scene file says.
 use model::{Element, Size};
+use text::PixelRun;
 
 // The screen that the file is for.
 #[derive(Clone, Copy, PartialEq, Eq, Debug)]
@@ -11,8 +12,8 @@ pub struct Console {
 
 #[derive(Clone, Copy, PartialEq, Eq, Debug)]
 pub enum Item {
-    // Some places of the pixel memory, from the first on, hold the same pixel.
-    Fill { first: u32, count: u32, pixel: u32 },
+    // The places of the pixel memory from the first on hold the run.
+    Fill { first: u32, run: PixelRun },
     Element(Element),
 }
 

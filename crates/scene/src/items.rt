@@ -6,15 +6,16 @@ ghost use Rattle.scene.specs.Items.{filled, filled_all, elements};
 use super::content::Item;
 use list::Appender;
 use model::Element;
+use text::PixelRun;
 
 // Where the run does not fit the memory, nothing is written.
-fn fill_run(memory: &mut [u32], first: u32, count: u32, pixel: u32)
-    ensures { memory.new ≡ filled first count pixel memory.old }
+fn fill_run(memory: &mut [u32], first: u32, run: PixelRun)
+    ensures { memory.new ≡ filled first run memory.old }
 {
     let start = first as usize;
-    let end = start + count as usize;
+    let end = start + run.count as usize;
     if end <= memory.len() {
-        memory[start..end].fill(pixel);
+        memory[start..end].fill(run.pixel);
     }
 }
 
@@ -25,11 +26,7 @@ pub fn fill_memory(items: &[Item], memory: &mut [u32])
 {
     for item in items {
         match *item {
-            Item::Fill {
-                first,
-                count,
-                pixel,
-            } => fill_run(memory, first, count, pixel),
+            Item::Fill { first, run } => fill_run(memory, first, run),
             Item::Element(_) => {}
         }
     }

@@ -9,13 +9,13 @@ use super::scene_line::{console_line, element_line, pixels_line};
 use std::alloc::Global;
 use text::{BadLine, Lines, Problem, Words, first_line};
 
-// A line after the console's.
-fn item_line(mut line: Words<'_>, memory: u32, items: &mut Vec<Item>) -> Result<(), Problem>
-    ensures { Gives (λ _. items.new.items) result (item_line memory items.old.items line.entry) }
+// A line after the console's, for a memory of that many pixels.
+fn item_line(mut line: Words<'_>, pixels: u32, items: &mut Vec<Item>) -> Result<(), Problem>
+    ensures { Gives (λ _. items.new.items) result (item_line pixels items.old.items line.entry) }
 {
     match line.next() {
         None => Ok(()),
-        Some(b"pixels") => pixels_line(line, memory, items),
+        Some(b"pixels") => pixels_line(line, pixels, items),
         Some(b"element") => Ok(items.push(Item::Element(element_line(line)?))?),
         Some(b"console") => Err(Problem::SecondConsole),
         Some(_) => Err(Problem::UnknownLine),
@@ -23,11 +23,14 @@ fn item_line(mut line: Words<'_>, memory: u32, items: &mut Vec<Item>) -> Result<
 }
 
 // The items of the lines that follow the console's.
-fn read_items(lines: Lines<'_>, memory: u32, items: &mut Vec<Item>) -> Result<(), BadLine>
-    ensures { GivesFile (λ _. items.new.items) result (items_after memory lines.entry.before items.old.items (lines_left lines.entry)) }
+fn read_items(lines: Lines<'_>, pixels: u32, items: &mut Vec<Item>) -> Result<(), BadLine>
+    ensures { GivesFile (λ _. items.new.items) result (items_after pixels lines.entry.before items.old.items (lines_left lines.entry)) }
 {
-    for (line, text) in lines {
-        item_line(Words::of(text), memory, items).map_err(|problem| BadLine { line, problem })?;
+    for (number, line) in lines {
+        item_line(Words::of(line), pixels, items).map_err(|problem| BadLine {
+            line: number,
+            problem,
+        })?;
     }
     Ok(())
 }

@@ -5,7 +5,7 @@ ghost use Rattle.scene.specs.SceneLine.{console_line, element_line, placed_pixel
 
 use super::content::{Console, Item};
 use model::{Element, Size};
-use text::{Argument, Problem, Words, read_pixels};
+use text::{Argument, PixelRun, Problem, Words, read_pixels};
 
 // console WIDTH HEIGHT composer PIXELS
 // A recording's console has a presenter besides, and another problem: one function of both would be longer.
@@ -41,35 +41,31 @@ pub(crate) fn element_line(mut line: Words<'_>) -> Result<Element, Problem>
     Ok(element)
 }
 
-// How many pixels a word writes, and which, where they fit a memory from the place `first` on.
-fn read_placed(word: &[u8], first: u32, memory: u32) -> Result<(u32, u32), Problem>
-    ensures value { result ≡ placed_pixels memory first word.now }
-    ensures fits { IfOk result (λ pixels. first + pixels.0 ≤ memory) }
+// The pixels that a word writes, where they fit a memory of `pixels` from the place `first` on.
+fn read_placed(word: &[u8], first: u32, pixels: u32) -> Result<PixelRun, Problem>
+    ensures value { result ≡ placed_pixels pixels first word.now }
+    ensures fits { IfOk result (λ run. first + run.count ≤ pixels) }
 {
-    let (count, pixel) = read_pixels(word).ok_or(Problem::PixelForm)?;
-    if u64::from(first) + u64::from(count) > u64::from(memory) {
+    let run = read_pixels(word).ok_or(Problem::PixelForm)?;
+    if u64::from(first) + u64::from(run.count) > u64::from(pixels) {
         return Err(Problem::PixelsPastEnd);
     }
-    Ok((count, pixel))
+    Ok(run)
 }
 
 // FIRST PIXEL..
 pub(crate) fn pixels_line(
     mut line: Words<'_>,
-    memory: u32,
+    pixels: u32,
     items: &mut Vec<Item>,
 ) -> Result<(), Problem>
-    ensures { Gives (λ _. items.new.items) result (pixels_line memory items.old.items line.entry) }
+    ensures { Gives (λ _. items.new.items) result (pixels_line pixels items.old.items line.entry) }
 {
     let mut first = line.number(Argument::First)?;
     for word in line {
-        let (count, pixel) = read_placed(word, first, memory)?;
-        items.push(Item::Fill {
-            first,
-            count,
-            pixel,
-        })?;
-        first += count;
+        let run = read_placed(word, first, pixels)?;
+        items.push(Item::Fill { first, run })?;
+        first += run.count;
     }
     Ok(())
 }

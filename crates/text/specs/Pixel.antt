@@ -1,5 +1,6 @@
 -- Pixels as words write them: PIXEL, or N*PIXEL for N of the same.
 use Rattle.std.specs.Prelude.{ℕ, ◌-◌, cond, List, [], ◌∷◌, length, take, drop, Some, None, Option, ◌==◌, slice_index}
+use Rattle.text.specs.declared.pixel.PixelRun.{PixelRun}
 use Rattle.text.specs.Number.{number, unsigned}
 
 -- eight hex digits
@@ -12,11 +13,12 @@ times [] = Some 1
 times (b ∷ bs) =
     cond (slice_index (b ∷ bs) (length bs) == 42) (unsigned (take (length bs) (b ∷ bs))) None
 
-abbrev pub both : Option ℕ → Option ℕ → Option (ℕ × ℕ)
-both None p = None
-both (Some n) None = None
-both (Some n) (Some p) = Some (n, p)
+-- n times the pixel p, where there are both
+abbrev pub run : Option ℕ → Option ℕ → Option PixelRun
+run None p = None
+run (Some n) None = None
+run (Some n) (Some p) = Some (record { count = n; pixel = p })
 
--- how many pixels a word writes, and which: its last eight bytes are the pixel
-abbrev pub pixels_of : List ℕ → Option (ℕ × ℕ)
-pixels_of word = both (times (take (length word - 8) word)) (pixel (drop (length word - 8) word))
+-- the pixels that a word writes: its last eight bytes are the pixel
+abbrev pub pixels_of : List ℕ → Option PixelRun
+pixels_of word = run (times (take (length word - 8) word)) (pixel (drop (length word - 8) word))

@@ -6,13 +6,13 @@ mod first;
 pub mod lines;
 mod memory;
 pub mod number;
-mod pixel;
+pub mod pixel;
 pub mod problem;
 pub mod words;
 
 pub use first::first_line;
 pub use lines::Lines;
 pub use number::{Number, digit_value};
-pub use pixel::read_pixels;
+pub use pixel::{PixelRun, read_pixels};
 pub use problem::{Argument, BadLine, Problem};
 pub use words::Words;

@@ -4,6 +4,13 @@ ghost use Rattle.text.specs.Pixel.{pixel, times, pixels_of};
 
 use super::number::read_number;
 
+// The same pixel, some number of times.
+#[derive(Clone, Copy, PartialEq, Eq, Debug)]
+pub struct PixelRun {
+    pub count: u32,
+    pub pixel: u32,
+}
+
 // Eight hex digits.
 #[tactic(auto, unfolding(crate::specs::Pixel::pixel))]
 fn read_pixel(word: &[u8]) -> Option<u32>
@@ -27,12 +34,13 @@ fn read_times(front: &[u8]) -> Option<u32>
     }
 }
 
-// How many pixels a word writes, and which.
-pub fn read_pixels(word: &[u8]) -> Option<(u32, u32)>
+// The pixels that a word writes.
+pub fn read_pixels(word: &[u8]) -> Option<PixelRun>
     ensures { result ≡ pixels_of word.now }
 {
     let (front, digits) = word.split_at(word.len().saturating_sub(8));
-    let count = read_times(front)?;
-    let value = read_pixel(digits)?;
-    Some((count, value))
+    Some(PixelRun {
+        count: read_times(front)?,
+        pixel: read_pixel(digits)?,
+    })
 }

@@ -12,8 +12,8 @@ pub loop-item-preserved : goal.loop-item-preserved
 loop-item-preserved c =
     let items = c.args.items.now in
     let i = c.loop-item.item-index in
-    let item = get_or items i (Fill 0 0 0) in
-    let more = flat_map_more element_of [] (take i items) item ∙ ap elements (sym (take_more items i (Fill 0 0 0) c.loop-item-test.true)) in
+    let item = get_or items i (Fill 0 (record { count = 0; pixel = 0 })) in
+    let more = flat_map_more element_of [] (take i items) item ∙ ap elements (sym (take_more items i (Fill 0 (record { count = 0; pixel = 0 })) c.loop-item-test.true)) in
     let step : Appended c.loop-item.out c.match-item.out (element_of item) =
     elim c.match-item.branch [ in-Fill w ↦ rw (w.in-Fill.is, w.out-is) (appended_none c.loop-item.out) | in-Element w ↦ rw (w.in-Element.is, w.out-is) w.push.ensures ]
     in

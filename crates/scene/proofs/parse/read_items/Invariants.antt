@@ -3,7 +3,7 @@ use Rattle.text.specs.Lines.{lines_left}
 use Rattle.scene.specs.Scene.{items_after}
 use Rattle.scene.proofs.parse.read_items.Given as goal
 
-abbrev pub invariant-loop-line : goal.invariant-loop-line
-invariant-loop-line l =
-    (goal.iterator-loop-line).can_next l.line-iterator × (goal.iterator-loop-line).is_finite l.line-iterator
-    × (items_after l.memory l.line-iterator.before (vec_items l.items) (lines_left l.line-iterator) ≡ items_after l.memory l.initial.line-iterator.before (vec_items l.initial.items) (lines_left l.initial.line-iterator))
+abbrev pub invariant-loop-number : goal.invariant-loop-number
+invariant-loop-number l =
+    (goal.iterator-loop-number).can_next l.number-iterator × (goal.iterator-loop-number).is_finite l.number-iterator
+    × (items_after l.pixels l.number-iterator.before (vec_items l.items) (lines_left l.number-iterator) ≡ items_after l.pixels l.initial.number-iterator.before (vec_items l.initial.items) (lines_left l.initial.number-iterator))
