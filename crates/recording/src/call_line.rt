@@ -13,6 +13,7 @@ use std::alloc::Global;
 use text::{Argument, Problem, Words};
 
 // console WIDTH HEIGHT composer|scanout PIXELS
+// A scene's console has no presenter, and another problem: one function of both would be longer.
 pub(crate) fn console_line(mut line: Words<'_>) -> Result<Console, Problem>
     ensures { result ≡ console_line line.entry }
 {

@@ -30,6 +30,7 @@ pub enum Call {
         width: u32,
         height: u32,
         stride: u32,
+        // A number as in an element.
         format: u32,
     },
     Root {

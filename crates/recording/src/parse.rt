@@ -39,10 +39,12 @@ fn read_entries(heap: Global, lines: Lines<'_>, entries: &mut Vec<Entry>) -> Res
     ensures { GivesFile (λ _. plain_entries entries.new.items) result (entries_after lines.entry.before 160 (plain_entries entries.old.items) (lines_left lines.entry)) }
 {
     let mut places = FIRST_PLACES;
-    for (line, text) in lines {
-        places = add_line(heap, Words::of(text), line, places, entries).map_err(|problem| BadLine {
-            line,
-            problem,
+    for (number, line) in lines {
+        places = add_line(heap, Words::of(line), number, places, entries).map_err(|problem| {
+            BadLine {
+                line: number,
+                problem,
+            }
         })?;
     }
     Ok(())

@@ -7,8 +7,8 @@ ghost use Rattle.text.specs.Lines.{lines, NextLine};
 
 use std::marker::Model;
 
-// How many bytes the first line has without its end. A function of its own, as `blanks` in
-// words.rt is, so that its clauses say the count and its bound where the text is split.
+// How many bytes the first line has without its end. At `blanks` in words.rt it says why there is
+// no function for both.
 fn line_length(text: &[u8]) -> usize
     ensures count { result ≡ prefix_len in_line text.now }
     ensures bound { result ≤ length text.now }
