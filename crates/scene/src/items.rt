@@ -1,7 +1,7 @@
 // What the items of a scene file are for: the pixel memory and the scene.
 ghost use Rattle.std.specs.Prelude.{◌≡◌};
 ghost use Rattle.list.specs.Appended.{Appended};
-ghost use Rattle.scene.specs.Items.{filled, filled_all, elements};
+ghost use Rattle.scene.specs.Items.{filled, filled_all, elements, element_of};
 
 use super::content::Item;
 use list::Appender;
@@ -32,14 +32,19 @@ pub fn fill_memory(items: &[Item], memory: &mut [u32])
     }
 }
 
+fn push_element(item: Item, out: &mut Appender<'_, Element>)
+    ensures { Appended out.old out.new (element_of item) }
+{
+    if let Item::Element(element) = item {
+        out.push(element);
+    }
+}
+
 // Pushes the elements, in order.
 pub fn collect_elements(items: &[Item], out: &mut Appender<'_, Element>)
     ensures { Appended out.old out.new (elements items.now) }
 {
     for item in items {
-        match *item {
-            Item::Fill { .. } => {}
-            Item::Element(element) => out.push(element),
-        }
+        push_element(*item, out);
     }
 }
