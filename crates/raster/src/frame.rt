@@ -18,18 +18,14 @@ fn has_sides(size: Size) -> bool
 fn is_fit(size: Size, pixels: usize) -> bool
     ensures { result ≡ fits size pixels }
 {
-    has_sides(size) && pixels == size.width as usize * size.height as usize
+    has_sides(size) && pixels == size.pixels()
 }
 
 // How many pixels a frame memory of this size has: none where no output may have it.
 pub fn frame_length(size: Size) -> usize
     ensures { result ≡ length_of size }
 {
-    if has_sides(size) {
-        size.width as usize * size.height as usize
-    } else {
-        0
-    }
+    if has_sides(size) { size.pixels() } else { 0 }
 }
 
 // The size of an output over a frame memory of `pixels` pixels: 0 x 0 where that does not fit the sides.
@@ -40,10 +36,7 @@ pub fn frame_size(size: Size, pixels: usize) -> Size
     if is_fit(size, pixels) {
         size
     } else {
-        Size {
-            width: 0,
-            height: 0,
-        }
+        Size::default()
     }
 }
 
