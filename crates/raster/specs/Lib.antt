@@ -2,3 +2,4 @@ pub mod Raster
 pub mod Sound
 pub mod Clip
 pub mod Frame
+pub mod Redrawn

@@ -3,7 +3,7 @@ ghost use Rattle.std.specs.Prelude.{◌≡◌, true, length};
 ghost use Rattle.model.specs.Output.{sized};
 ghost use Rattle.raster.specs.Frame.{has_sides as may_have, fits, frame_length as length_of, extent as size_of, blackened, painted, pixel_at};
 
-use super::draw::draw_scene;
+use super::draw::Frame;
 use super::sound::{are_sound, is_side};
 use model::{Element, Size};
 
@@ -60,6 +60,10 @@ pub fn draw_frame(frame: &mut [u32], size: Size, scene: &[Element], memory: &[u3
     ensures { frame.new ≡ painted size frame.old scene.now memory.now }
 {
     if is_fit(size, frame.len()) && are_sound(scene, memory.len()) {
-        draw_scene(frame, size, scene, memory);
+        let mut frame = Frame {
+            pixels: frame,
+            size,
+        };
+        frame.draw_scene(scene, memory);
     }
 }
