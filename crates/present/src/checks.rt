@@ -8,17 +8,11 @@ use raster::are_sound;
 // Most elements in a scene.
 const MOST_ELEMENTS: usize = 32;
 
-// The size of an output that cannot be switched on.
-const NO_SIZE: Size = Size {
-    width: 0,
-    height: 0,
-};
-
-// Whether an output of this size can be switched on.
+// Whether an output of this size can be switched on: not if it is 0 x 0.
 pub fn check_switch_on(size: Size) -> Result<(), Fault>
     ensures { result ≡ on_answer size }
 {
-    if size == NO_SIZE {
+    if size == Size::default() {
         return Err(Refusal::NoSize.into());
     }
     Ok(())

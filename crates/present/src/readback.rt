@@ -20,7 +20,7 @@ pub fn read_glass<P: Readback>(p: &P, memory: &[u32], pixels: &mut [u32]) -> boo
 {
     let size = p.size();
     let width = size.width as usize;
-    if !p.is_lit() || pixels.len() != width * size.height as usize {
+    if !p.is_lit() || pixels.len() != size.pixels() {
         return false;
     }
     // By place, not by the rows of `chunks_exact_mut`: of what was written through those, nothing can be proved.

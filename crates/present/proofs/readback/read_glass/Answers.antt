@@ -7,6 +7,6 @@ pub returns-clause-pixels : goal.returns-clause-pixels
 returns-clause-pixels g c =
     let f = g.P.Presenter.glass c.args.p.now c.args.memory.now in
     let size = c.size-size.result in
-    let long : length c.loop-place.pixels ≡ size.width * size.height = c.loop-place.auto.pixels ∙ c.if-pixels-width.false in
+    let long : length c.loop-place.pixels ≡ size.width * size.height = c.loop-place.auto.pixels ∙ c.if-pixels.false ∙ c.pixels.ensures in
     fill_by_all (λ k. f (k % size.width) (k / size.width)) c.loop-place.pixels (size.width * size.height) 0 long (λ k h. c.loop-place.invariant k (omega arith))
     ∙ ap (λ s. raster s f) c.size-size.ensures.value
