@@ -41,6 +41,7 @@ pub trait Presenter {
         ensures size { extent self.new ≡ extent self.old }
         ensures left { left self.old switched_on self.new };
 
+    // Scene and memory are two parameters: the glass goes on being worked out with a memory that has changed since.
     fn show(&mut self, scene: &[Element], memory: &[u32]) -> Result<(), Fault>
         ensures answer { result ≡ show_answer (lit self.old) scene.now (length memory.now) }
         ensures refused { accepted result ≡ false → self.new ≡ self.old }
