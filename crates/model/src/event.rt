@@ -1,4 +1,4 @@
-// An event that a call sends to a client.
+// An event that a call sends to a client: four numbers, as a client is told it.
 
 #[derive(Clone, Copy, PartialEq, Eq, Debug)]
 pub struct Event {

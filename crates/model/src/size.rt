@@ -1,4 +1,4 @@
-// The size of an output, in pixels.
+// The size of an output, in pixels; an output that cannot be lit has 0 x 0.
 ghost use Rattle.std.specs.Prelude.{◌≡◌, ◌*◌};
 
 #[derive(Clone, Copy, PartialEq, Eq, Debug, Default)]

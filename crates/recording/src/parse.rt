@@ -34,7 +34,8 @@ fn add_line(
     }
 }
 
-// The entries of the lines that follow the console's.
+// The entries of the lines that follow the console's. A scene file's items are read by a loop like this one, without the places that
+// go from line to line: a shared one would be handed a closure and be longer.
 fn read_entries(heap: Global, lines: Lines<'_>, entries: &mut Vec<Entry>) -> Result<(), BadLine>
     ensures { GivesFile (λ _. plain_entries entries.new.items) result (entries_after lines.entry.before 160 (plain_entries entries.old.items) (lines_left lines.entry)) }
 {

@@ -5,7 +5,7 @@ use recording::{Call, Console, PresenterKind, parse_recording};
 use std::alloc::{AllocError, Global};
 use std::test::Fail;
 
-// A call, written out.
+// A call, written out. The bench writes calls too, but a test is not to take what it expects from there.
 fn shown(heap: Global, call: &Call) -> Result<String, AllocError> {
     match call {
         Call::Request { client, message } => format!(in heap; "request {client} {message:?}"),

@@ -42,15 +42,7 @@ fn elements_in_order(rt: HostRuntime) -> Result<(), Fail> {
     let text =
         b"console 1 1 composer 1\nelement 1 0 0 1 1 1 0\npixels 0 1*00000001\nelement 2 0 0 1 1 1 1\n";
     let file = parse_scene(rt.alloc(), text)?;
-    let blank = Element {
-        x: 0,
-        y: 0,
-        first: 0,
-        width: 0,
-        height: 0,
-        stride: 0,
-        format: 0,
-    };
+    let blank = Element::default();
     let mut places = [blank; 3];
     let mut scene = Appender::new(&mut places);
     collect_elements(file.items.as_slice(), &mut scene);
