@@ -6,6 +6,8 @@ use model::{Element, Fault, Size};
 use present::{Presenter, Readback, check_show, check_switch_on};
 use raster::{clear_frame, draw_frame, frame_pixel, frame_size};
 
+// The frame and its size are fields of their own: of a struct that holds a struct that holds a loan, the lent memory would not be
+// known afterwards.
 #[derive(Drop)]
 pub struct Composer<'a> {
     frame: &'a mut [u32],

@@ -16,8 +16,8 @@ use std::io::{Read, Write};
 use std::process::ExitCode;
 use std::{env, fs};
 
-// `replay` reads, prints and fails in nearly the same words. They are not shared: each is a line or two, and no contract of a
-// shared function could say what a file or a terminal gives.
+// `replay` has a `main` like this one, and options and failures of its own. They are not shared: the options and failures differ,
+// and what is alike is input and output, of which no contract of a shared function could say anything.
 fn main(rt: HostRuntime) -> ExitCode {
     match run(&rt) {
         Ok(()) => ExitCode::SUCCESS,

@@ -5,6 +5,7 @@ ghost use Rattle.list.specs.Bounded.{pushed};
 use super::appender::Appender;
 
 // One more after the first `count`; full places stay as they are. Answers how many are filled then.
+// Places and a count, as the lists that push by it hold them: the core has no heap.
 pub fn push_within<T: Copy>(places: &mut [T], count: usize, x: T) -> usize
     ensures elements { count ≤ length places.old → take result places.new ≡ pushed (length places.old) (take count places.old) x }
     ensures within { count ≤ length places.old → result ≤ length places.old }

@@ -1,8 +1,8 @@
 // An element of a scene: one buffer's pixels, placed on the output.
 
 // Copied freely: a presenter is lent a slice of elements and may keep some of them.
-// The format is a number, since a presenter has to refuse what no buffer has. Flat, with no struct for the buffer's five numbers:
-// a scene lists them with the position, and every reader wants both.
+// The format is a number, since a presenter has to refuse what no buffer has. Flat, since a scene
+// lists the seven numbers so, and a presenter is handed them so.
 #[derive(Clone, Copy, PartialEq, Eq, Debug, Default)]
 pub struct Element {
     // The output column and row of the top left pixel.

@@ -28,7 +28,7 @@ pub fn frame_length(size: Size) -> usize
     if has_sides(size) { size.pixels() } else { 0 }
 }
 
-// The size of an output over a frame memory of `pixels` pixels: 0 x 0 where that does not fit the sides.
+// The size of an output over a frame memory of `pixels` pixels: 0 x 0, which cannot be lit, where that does not fit the sides.
 pub fn frame_size(size: Size, pixels: usize) -> Size
     ensures value { result ≡ size_of size pixels }
     ensures sized { sized result ≡ true }
@@ -56,6 +56,7 @@ pub fn clear_frame(frame: &mut [u32])
 }
 
 // Makes the pixels the picture of a scene, if that can be drawn into them; else they stay.
+// Frame and size are two parameters, here and above: a presenter holds them as two, and `Frame` is only for one that fits.
 pub fn draw_frame(frame: &mut [u32], size: Size, scene: &[Element], memory: &[u32])
     ensures { frame.new ≡ painted size frame.old scene.now memory.now }
 {

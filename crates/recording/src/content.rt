@@ -16,7 +16,7 @@ pub struct Console {
     pub pixels: u32,
 }
 
-// One call with its arguments.
+// One call with its arguments, each a field as it stands on the line.
 #[derive(Debug, Drop)]
 pub enum Call {
     Request {

@@ -13,7 +13,7 @@ use std::io::Write;
 use std::process::ExitCode;
 use std::{env, fs};
 
-// As in `draw`: each is a line or two, and no contract of a shared function could say what a file or a terminal gives.
+// As in `draw`, with other options and failures; what is alike is input and output, of which no contract could say anything.
 fn main(rt: HostRuntime) -> ExitCode {
     match run(&rt) {
         Ok(()) => ExitCode::SUCCESS,

@@ -23,6 +23,7 @@ pub fn write_rows(out: &mut Vec<u8>, pixels: &[u32], width: usize) -> Result<(),
     if width == 0 {
         return Ok(());
     }
+    // By place, which tells what stands after a pixel; with rows from `chunks` the last pixel of each would have to be told apart.
     for (i, pixel) in pixels.iter().enumerate() {
         let end = separator(width, pixels.len(), i + 1);
         out.extend_from_slice(&pixel_word(*pixel, end))?;

@@ -1,4 +1,4 @@
-// A buffer record.
+// A buffer record, flat as an element is.
 
 #[derive(Clone, Copy, PartialEq, Eq, Debug)]
 pub struct Buffer {

@@ -1,6 +1,6 @@
 // The rules of the core as a plain machine; `specs/` has them, and these are the types that they share with the code.
-// Records name one another by their places in tables of fixed size, since the core has no heap. A client and an id are two fields of
-// each: a record of the two would only be taken apart again, since a buffer may have lost its id and events name an object alone.
+// Records name one another by their places in tables of fixed size, since the core has no heap. A client and an id are two
+// fields, as in the calls and the events: a buffer keeps its client when it has lost its id.
 #![tactic(auto)]
 
 pub mod attach;

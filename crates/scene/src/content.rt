@@ -2,7 +2,7 @@
 use model::{Element, Size};
 use text::PixelRun;
 
-// The screen that the file is for.
+// The screen that the file is for; a recording's names its presenter too.
 #[derive(Clone, Copy, PartialEq, Eq, Debug)]
 pub struct Console {
     pub size: Size,

@@ -35,7 +35,7 @@ pub(crate) fn read_number(word: &[u8], base: u8, most: u32) -> Option<u32>
     if word.is_empty() {
         return None;
     }
-    // As a `try_fold` the goal stayed open: its clause tells of the turns by what the calls did.
+    // No `try_fold`: its contract speaks of each step by what the closure's call did, and the check did not find this proof from that.
     let mut n = 0;
     for byte in word {
         n = with_digit(n, *byte, base, most)?;

@@ -74,7 +74,7 @@ impl fmt::Display for Argument {
     }
 }
 
-// Written out, since what it says is a promise: a Display that thiserror derives has no contract.
+// Written out, here and for a bad line, since what it says is a promise: a Display that thiserror derives has no contract.
 impl fmt::Display for Problem {
     ghost output = { λ problem. Some (problem_subject problem ++ problem_text problem) };
 
