@@ -32,7 +32,7 @@ fn pixel_memory(heap: Global, file: &SceneFile) -> Result<Vec<u32>, AllocError>
 }
 
 // Puts the elements of a file into lent places, and answers how many there are. By the list that appends, and not by a `Vec`'s
-// own push: scene elements are listed by that one list everywhere.
+// own push: the elements that a presenter is handed are listed by that one list.
 fn put_elements(items: &[Item], places: &mut [Element]) -> usize
     ensures { length items.now ≤ length places.old → (places.new ≡ written places.old (elements items.now)) × (result ≡ length (elements items.now)) }
 {

@@ -24,10 +24,10 @@ pub record LinesLeft : Type 0 where
 abbrev pub lines_left : LinesLeft → List (List ℕ)
 lines_left left = lines left.text
 
--- the first line that was left comes, with its number, and the others stay, in fewer bytes
+-- the first line that was left comes, with its number, and the others stay, in fewer bytes; where none was left, all stays
 abbrev pub NextLine : LinesLeft → Option (ℕ × Bor (List ℕ)) → LinesLeft → Type 0
 NextLine left next after =
-    MatchOption next ((lines_left left ≡ []) × (lines_left after ≡ [])) λ found.
+    MatchOption next ((lines_left left ≡ []) × (after ≡ left)) λ found.
     (found.0 ≡ left.before + 1) × (after.before ≡ left.before + 1) × (length after.text < length left.text) × (lines_left left ≡ found.1.now ∷ lines_left after)
 
 -- the first of some lines or words, and those after it
