@@ -4,12 +4,12 @@ use Rattle.std.specs.List.{list_any}
 use Rattle.std.proofs.lemmas.Bool.{cond_both, or_parts, and_cases, ltb-false}
 use Rattle.std.proofs.lemmas.Option.{none-some, same_Some}
 use Rattle.rules.specs.declared.buffer.Buffer.{Buffer}
-use Rattle.rules.specs.State.{Model, buffer_span}
+use Rattle.rules.specs.State.{Model}
 use Rattle.rules.specs.Table.{records, changed}
 use Rattle.rules.specs.Hold.{busy, kept, sweep}
 use Rattle.rules.specs.Carry.{nameless}
 use Rattle.rules.specs.Call.{overlap, misplaced}
-use Rattle.bounds.specs.Sound.{Spans}
+use Rattle.bounds.specs.Sound.{span_length, Spans}
 use Rattle.bounds.proofs.Tables.{put_related, put_cases, each_related, replicated}
 
 -- a record that is there now was there before, with the same span
@@ -17,7 +17,7 @@ pub record Was (o : Option Buffer) (g : Buffer) : Type 0 where
   old : Buffer
   there : o ≡ Some old
   first : g.first ≡ old.first
-  span : buffer_span g ≡ buffer_span old
+  span : span_length g ≡ span_length old
 
 -- a place whose record goes, or keeps its span
 abbrev pub Shrinks : Option Buffer → Option Buffer → Type 0
@@ -45,7 +45,7 @@ module _ (size : ℕ) (bs cs : List (Option Buffer)) (h : (b : ℕ) → Shrinks 
 
 nameless_shrinks : (o : Option Buffer) → Shrinks o (option_map nameless o)
 nameless_shrinks None = shrinks_none None
-nameless_shrinks (Some f) = λ g e. let z = sym (same_Some (nameless f) g e) in record { old = f; there = refl; first = ap (λ (b : Buffer). b.first) z; span = ap buffer_span z }
+nameless_shrinks (Some f) = λ g e. let z = sym (same_Some (nameless f) g e) in record { old = f; there = refl; first = ap (λ (b : Buffer). b.first) z; span = ap span_length z }
 
 pub spans_nameless : (size : ℕ) (bs : List (Option Buffer)) (b : ℕ) → Spans size bs → Spans size (changed b nameless bs)
 spans_nameless size bs b a =
@@ -69,7 +69,7 @@ any_none test (Some y ∷ t) e zero x h = subst (λ z. test z ≡ false) (same_S
 any_none test (Some y ∷ t) e (suc k) x h = any_none test t (or_parts (test y) (list_any test (records t)) e).1 k x h
 
 abbrev Clear : Buffer → Buffer → Type 0
-Clear f g = (f.first + buffer_span f ≤ g.first) ⊎ (g.first + buffer_span g ≤ f.first)
+Clear f g = (f.first + span_length f ≤ g.first) ⊎ (g.first + span_length g ≤ f.first)
 
 turned : (f g : Buffer) → Clear f g → Clear g f
 turned f g (inl h) = inr h
@@ -78,17 +78,17 @@ turned f g (inr h) = inl h
 -- two spans that do not meet
 apart_from : (a b : Buffer) → overlap a b ≡ false → Clear b a
 apart_from a b e =
-    elim (and_cases (ltb a.first (b.first + buffer_span b)) (ltb b.first (a.first + buffer_span a)) e) [
+    elim (and_cases (ltb a.first (b.first + span_length b)) (ltb b.first (a.first + span_length a)) e) [
       | inl y ↦ inl (ltb-false _ _ y)
       | inr y ↦ inr (ltb-false _ _ y)
     ]
 
 -- a new record, whose span meets none
 module _ (m : Model) (b : ℕ) (new : Buffer) (a : Spans m.size m.buffers) (e : misplaced m new ≡ false) where
-  parts : (ltb m.size (new.first + buffer_span new) ≡ false) × (list_any (overlap new) (records m.buffers) ≡ false)
-  parts = or_parts (ltb m.size (new.first + buffer_span new)) (list_any (overlap new) (records m.buffers)) e
+  parts : (ltb m.size (new.first + span_length new) ≡ false) × (list_any (overlap new) (records m.buffers) ≡ false)
+  parts = or_parts (ltb m.size (new.first + span_length new)) (list_any (overlap new) (records m.buffers)) e
 
-  within : new.first + buffer_span new ≤ m.size
+  within : new.first + span_length new ≤ m.size
   within = ltb-false _ _ parts.0
 
   away : (x : ℕ) (g : Buffer) → get_or m.buffers x None ≡ Some g → Clear g new
@@ -101,8 +101,8 @@ module _ (m : Model) (b : ℕ) (new : Buffer) (a : Spans m.size m.buffers) (e : 
   same_new : (o : Option Buffer) (f : Buffer) → o ≡ Some new → o ≡ Some f → new ≡ f
   same_new o f z u = same_Some new f (sym z ∙ u)
 
-  inside_added : (x : ℕ) (o : Option Buffer) (f : Buffer) → Now x o → o ≡ Some f → f.first + buffer_span f ≤ m.size
-  inside_added x o f (inl z) u = subst (λ (v : Buffer). v.first + buffer_span v ≤ m.size) (same_new o f z.1 u) within
+  inside_added : (x : ℕ) (o : Option Buffer) (f : Buffer) → Now x o → o ≡ Some f → f.first + span_length f ≤ m.size
+  inside_added x o f (inl z) u = subst (λ (v : Buffer). v.first + span_length v ≤ m.size) (same_new o f z.1 u) within
   inside_added x o f (inr z) u = a.inside x f (sym z ∙ u)
 
   apart_added : (x y : ℕ) (o p : Option Buffer) (f g : Buffer) → x ≢ y → Now x o → Now y p → o ≡ Some f → p ≡ Some g → Clear f g

@@ -1,12 +1,12 @@
 -- What holds of a core after any calls.
-use Rattle.std.specs.Prelude.{◌≡◌, ℕ, ◌+◌, ◌<◌, ◌≤◌, ◌≢◌, ◌⊎◌, List, length, Some, None, sum_by, Option, slice_index_or}
+use Rattle.std.specs.Prelude.{◌≡◌, ℕ, ◌+◌, ◌*◌, ◌<◌, ◌≤◌, ◌≢◌, ◌⊎◌, List, length, Some, None, sum_by, Option, slice_index_or}
 use Rattle.std.specs.List.{AllByRecursion}
 use Rattle.std.specs.Option.{option_len}
 use Rattle.rules.specs.declared.buffer.Buffer.{Buffer}
 use Rattle.rules.specs.declared.object.Object.{Object}
 use Rattle.rules.specs.declared.object.ObjectKind.{ObjectKind}
 use Rattle.rules.specs.declared.object.ObjectKind.TheVariants.{InertSubsurface}
-use Rattle.rules.specs.State.{Model, Surface, Waiting, most, no_surface, no_object, buffer_span, surface_of}
+use Rattle.rules.specs.State.{Model, Surface, Waiting, most, no_surface, no_object, surface_of}
 use Rattle.rules.specs.Table.{record_at, records}
 use Rattle.bounds.specs.Forest.{Forest, parent_in}
 use Rattle.bounds.specs.Member.{Member, Once}
@@ -41,11 +41,15 @@ pub record Tree (t : List (Option Surface)) (os : List (Option Object)) : Type 0
   -- the surface of a sub-surface object, inert or not, knows it
   pub known : (k p : ℕ) → surface_of (kind_in os k) ≡ Some p → object_in t p ≡ Some k
 
+-- how many pixels the span of a buffer record has; spelled out apart from the rules on purpose, so that the theorem judges them
+abbrev pub span_length : Buffer → ℕ
+span_length b = b.stride * b.height
+
 -- the spans of buffer records lie inside the pixel memory, and none meets another
 pub record Spans (size : ℕ) (bs : List (Option Buffer)) : Type 0 where
-  pub inside : (a : ℕ) (f : Buffer) → slice_index_or bs a None ≡ Some f → f.first + buffer_span f ≤ size
+  pub inside : (a : ℕ) (f : Buffer) → slice_index_or bs a None ≡ Some f → f.first + span_length f ≤ size
   pub apart : (a b : ℕ) (f g : Buffer) → a ≢ b → slice_index_or bs a None ≡ Some f → slice_index_or bs b None ≡ Some g
-      → (f.first + buffer_span f ≤ g.first) ⊎ (g.first + buffer_span g ≤ f.first)
+      → (f.first + span_length f ≤ g.first) ⊎ (g.first + span_length g ≤ f.first)
 
 -- how many holds are on the glass: current ones that have a mark, and waiting ones
 abbrev pub on_glass : List (Option Surface) → List Waiting → ℕ
