@@ -1,5 +1,6 @@
 -- The runs, each computed.
-use Rattle.std.proofs.Common.{rules, ◌≡◌, ℕ, sym, refl, ◌∙◌, arith}
+use Rattle.std.proofs.Common.{◌≡◌, ℕ, sym, refl, ap, ◌∙◌, arith}
+use Rattle.model.specs.declared.size.Size.{Size}
 use Rattle.model.specs.Pixel.{blended_by, with_alpha}
 use Rattle.model.specs.Word.{words, int}
 use Rattle.rules.specs.Hold.{end_waiting}
@@ -26,8 +27,8 @@ one_frame_kept : Kept one_frame
 unfolding blended_by with_alpha words int end_waiting end_callbacks held_back_in descends_in apply_self apply_in commit desync unlink unlink_children destroy walk_in
 one_frame_kept =
     record {
-      one_memory = search rules;
-      one_presenter = search rules;
+      one_memory = (refl, (tt, (tt, (tt, (tt, (refl, (tt, (tt, (tt, (tt, tt))))))))));
+      one_presenter = (tt, (tt, (tt, (tt, (refl, (tt, (tt, (tt, (tt, (tt, tt))))))))));
       memory = refl;
       glass = λ on x y inside-x inside-y. refl;
       balance = (tt, (tt, (agree 0 refl refl, (agree 1 refl refl, (tt, (tt, (tt, (tt, (tt, (tt, (tt, (tt, (tt, (tt, (tt, (tt, tt))))))))))))))));
@@ -41,8 +42,8 @@ two_frames_kept : Kept two_frames
 unfolding blended_by with_alpha words int end_waiting end_callbacks held_back_in descends_in apply_self apply_in commit desync unlink unlink_children destroy walk_in
 two_frames_kept =
     record {
-      one_memory = search rules;
-      one_presenter = search rules;
+      one_memory = (refl, (tt, (tt, (refl, (tt, (tt, (tt, (tt, (refl, (tt, (tt, (tt, (tt, tt)))))))))))));
+      one_presenter = (tt, (tt, (tt, (tt, (tt, (tt, (tt, (refl, (tt, (tt, (tt, (tt, (tt, tt)))))))))))));
       memory = refl;
       glass = λ on x y inside-x inside-y. refl;
       balance = (tt, (tt, (agree 1 refl refl, (agree 1 refl refl, (tt, (tt, (tt, (tt, (tt, (tt, (tt, (tt, (tt, (tt, (tt, (tt, tt))))))))))))))));
@@ -77,6 +78,9 @@ tried =
       due_once = refl;
       done_once = refl;
       not_after_end = refl;
+      other_memory_painted = λ e. omega arith;
+      other_memory_shown = λ e. omega arith;
+      other_presenter = λ e. let w = ap (λ (s : Size). s.width) e in omega arith;
       one_frame_kept = one_frame_kept;
       two_frames_kept = two_frames_kept;
       too_early_refused = too_early_refused;

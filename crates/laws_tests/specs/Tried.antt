@@ -2,11 +2,11 @@
 use Rattle.std.specs.Prelude.{◌≡◌, ℕ, Bool, true, false, List, [], ◌∷◌, ◌++◌, reverse, replicate, Some, None, Option}
 use Rattle.std.specs.Option.{option_map}
 use Rattle.model.specs.Pixel.{black}
-use Rattle.rules.specs.Call.{Call, paint_call, switch_call, rule}
+use Rattle.rules.specs.Call.{Call, paint_call, switch_call, frame_call, rule}
 use Rattle.rules.specs.Hold.{holds}
 use Rattle.examples.specs.Calls.{ask, create_surface, attach, ask_frame, commit, set_desync, make_buffer, switch_on, frame, show, event}
 use Rattle.examples.specs.Examples.{alone, strip}
-use Rattle.laws.specs.History.{model_after}
+use Rattle.laws.specs.History.{SameMemory, SameSize, model_after}
 use Rattle.laws.specs.Picture.{pixels, last_picture}
 use Rattle.laws.specs.Object.{Made, made, buffer, callback, last_object}
 use Rattle.laws.specs.Buffer.{commits, counted_place}
@@ -118,6 +118,10 @@ pub record Tried : Type 0 where
   pub due_once : due_after answered ≡ false
   pub done_once : received 1000 callback_20 (by_rules (history answered)) ≡ 1
   pub not_after_end : due_after surface_ended ≡ false
+  -- a paint and a frame may be lent no other pixel memory, and a switch no presenter of another size
+  pub other_memory_painted : SameMemory 1000 (paint_call 0 5 0 [] 999) → ⊥
+  pub other_memory_shown : SameMemory 1000 (frame_call 7 999 160) → ⊥
+  pub other_presenter : SameSize (record { width = 8; height = 8 }) (switch_call true (record { width = 9; height = 8 }) 160) → ⊥
   -- all laws, in two runs
   pub one_frame_kept : Kept one_frame
   pub two_frames_kept : Kept two_frames
