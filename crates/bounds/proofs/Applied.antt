@@ -32,7 +32,7 @@ replaced p r ws es v w c =
     let t = r.model.surfaces in
     record {
       places = length-set t p (option_map replacing (get_or t p None));
-      surfaces = changed_related no_surface LinkedAlike alike_same t p replacing (record { parent = refl; object = refl; pending = refl; current = inl refl });
+      surfaces = changed_related no_surface LinkedAlike alike_same t p replacing (record { id = refl; parent = refl; object = refl; pending = refl; current = inl refl });
       buffers = refl;
       objects = refl;
       size = refl;
@@ -63,7 +63,7 @@ take_cached_keeps (Held b) p r e = replace_keeps p r (ap cached_one e)
 
 restack_keeps : (p : ℕ) (r : Plain) → Keeps 0 r (restack plain p r)
 restack_keeps p r =
-    edit_keeps 0 p (λ s. with_order s.pending.order s) r (record { parent = refl; object = refl; pending = refl; current = inr refl }) (omega arith) (omega arith)
+    edit_keeps 0 p (λ s. with_order s.pending.order s) r (record { id = refl; parent = refl; object = refl; pending = refl; current = inr refl }) (omega arith) (omega arith)
 
 pub apply_self_keeps : (p : ℕ) (r : Plain) → Keeps 0 r (apply_self plain p r)
 unfolding apply_self
@@ -75,7 +75,7 @@ apply_self_keeps p r =
 -- apply 4
 pub settle_keeps : (c : ℕ) (r : Plain) → Keeps 0 r (settle plain c r)
 settle_keeps c r =
-    edit_keeps 0 c (λ s. with_position s.pending.x s.pending.y s) r (record { parent = refl; object = refl; pending = refl; current = inl refl }) (omega arith) (omega arith)
+    edit_keeps 0 c (λ s. with_position s.pending.x s.pending.y s) r (record { id = refl; parent = refl; object = refl; pending = refl; current = inl refl }) (omega arith) (omega arith)
 
 abbrev pub KeptBy : (ℕ → Plain → Plain) → Type 0
 KeptBy go = (c : ℕ) (r : Plain) → Keeps 0 r (go c r)
@@ -113,7 +113,7 @@ cached_run p r es v =
     let t = r.model.surfaces in
     record {
       places = length-set t p (option_map caching (get_or t p None));
-      surfaces = changed_related no_surface LinkedAlike alike_same t p caching (record { parent = refl; object = refl; pending = refl; current = inl refl });
+      surfaces = changed_related no_surface LinkedAlike alike_same t p caching (record { id = refl; parent = refl; object = refl; pending = refl; current = inl refl });
       buffers = refl;
       objects = refl;
       size = refl;
@@ -149,7 +149,7 @@ commit_keeps p r =
 
 pub desync_begins : (p : ℕ) (r : Plain) → Keeps 0 r (edit p (with_sync false) r)
 desync_begins p r =
-    edit_keeps 0 p (with_sync false) r (record { parent = refl; object = refl; pending = refl; current = inl refl }) (omega arith) (omega arith)
+    edit_keeps 0 p (with_sync false) r (record { id = refl; parent = refl; object = refl; pending = refl; current = inl refl }) (omega arith) (omega arith)
 
 pub desync_keeps : (p : ℕ) (r : Plain) → Keeps 0 r (desync plain p r)
 unfolding desync

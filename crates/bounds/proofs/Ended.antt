@@ -260,7 +260,7 @@ subsurface_ended_fine m k a = subsurface_gone m k (delete_id (object_at m k).cli
 -- wl_buffer.destroy
 detached_alike : (b : ℕ) (s : Surface) → LinkedAlike s (detached b s)
 detached_alike b s =
-    cond_both (is_of b (held s.pending.attach)) (with_attach Null s) s (LinkedAlike s) (λ _. record { parent = refl; object = refl; pending = refl; current = inl refl }) (λ _. alike_same s)
+    cond_both (is_of b (held s.pending.attach)) (with_attach Null s) s (LinkedAlike s) (λ _. record { id = refl; parent = refl; object = refl; pending = refl; current = inl refl }) (λ _. alike_same s)
 
 detached_mark : (b : ℕ) (s : Surface) → mark_one (detached b s) ≤ mark_one s
 detached_mark b s = cond_both (is_of b (held s.pending.attach)) (with_attach Null s) s (λ (u : Surface). mark_one u ≤ mark_one s) (λ _. omega arith) (λ _. omega arith)

@@ -48,12 +48,13 @@ tree_object_gone t os k a = tree_fewer t os (set os k None) (λ j x e. (gone_kin
 -- and its surface, which has no parent, forgets it
 module _ (t : List (Option Surface)) (os : List (Option Object)) (k p : ℕ) (a : Tree t os) (alone : parent_in t p ≡ None) (its : object_in t p ≡ Some k) where
   record Forgets (s u : Surface) : Type 0 where
+    id : u.id ≡ s.id
     parent : u.parent ≡ s.parent
     pending : u.pending.order ≡ s.pending.order
     current : u.current.order ≡ s.current.order
 
   forgets : (x : ℕ) → Forgets (record_at no_surface t x) (record_at no_surface (changed p (with_object None) t) x)
-  forgets = changed_related no_surface Forgets (λ s. record { parent = refl; pending = refl; current = refl }) t p (with_object None) (record { parent = refl; pending = refl; current = refl })
+  forgets = changed_related no_surface Forgets (λ s. record { id = refl; parent = refl; pending = refl; current = refl }) t p (with_object None) (record { id = refl; parent = refl; pending = refl; current = refl })
 
   object_kept : (x : ℕ) → x ≢ p → object_in (changed p (with_object None) t) x ≡ object_in t x
   object_kept x n = ap (λ (s : Surface). s.object) (changed_other no_surface t p (with_object None) x n)
@@ -95,6 +96,7 @@ module _ (t : List (Option Surface)) (os : List (Option Object)) (k p : ℕ) (a 
 
 -- what stays of a surface where its pending order changes
 record Reordered (s u : Surface) : Type 0 where
+  id : u.id ≡ s.id
   parent : u.parent ≡ s.parent
   object : u.object ≡ s.object
   current : u.current.order ≡ s.current.order
@@ -107,7 +109,7 @@ reordering g s = with_pending_order (g s.pending.order) s
 module _ (t : List (Option Surface)) (os : List (Option Object)) (q : ℕ) (g : List ℕ → List ℕ)
     (h : (c : ℕ) → Member c (g (pending_in t q)) → (c ≡ q) ⊎ (parent_in t c ≡ Some q)) (o : Once (g (pending_in t q))) (a : Tree t os) where
   reordered : (x : ℕ) → Reordered (record_at no_surface t x) (record_at no_surface (changed q (reordering g) t) x)
-  reordered = changed_related no_surface Reordered (λ s. record { parent = refl; object = refl; current = refl }) t q (reordering g) (record { parent = refl; object = refl; current = refl })
+  reordered = changed_related no_surface Reordered (λ s. record { id = refl; parent = refl; object = refl; current = refl }) t q (reordering g) (record { id = refl; parent = refl; object = refl; current = refl })
 
   pending_reordered : (x c : ℕ) → Member c (pending_in (changed q (reordering g) t) x) → (c ≡ x) ⊎ (parent_in t c ≡ Some x)
   pending_reordered x c m =
@@ -214,6 +216,7 @@ module _ (t : List (Option Surface)) (os ps : List (Option Object)) (p : ℕ) (n
 
 -- what stays of a surface that is adopted
 record Adopts (u v : Surface) : Type 0 where
+  id : v.id ≡ u.id
   pending : v.pending.order ≡ u.pending.order
   current : v.current.order ≡ u.current.order
 
@@ -249,7 +252,7 @@ module _ (t : List (Option Surface)) (os : List (Option Object)) (k client id s 
 
   adopts : (x : ℕ) → Adopts (record_at no_surface t x) (record_at no_surface t₁ x)
   unfolding t₁
-  adopts = changed_related no_surface Adopts (λ v. record { pending = refl; current = refl }) t s (child_of k q) (record { pending = refl; current = refl })
+  adopts = changed_related no_surface Adopts (λ v. record { id = refl; pending = refl; current = refl }) t s (child_of k q) (record { id = refl; pending = refl; current = refl })
 
   no_parent : (x : ℕ) → parent_in t s ≡ Some x → ⊥
   no_parent x e = a.linked s x e alone

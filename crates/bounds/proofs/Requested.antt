@@ -82,7 +82,7 @@ edited m p f a h k c = fine_keeps 0 m (edit p f (start m)) a (omega arith) (edit
 positioned_fine : (m : Model) (o : Option ℕ) (x y : ℤ) → Sound m → Accepts Fine (unless_inert plain o (λ p. Ok (edit p (with_pending_position x y) (start m))) (start m))
 positioned_fine m None x y a = unchanged_fine m a
 positioned_fine m (Some p) x y a =
-    edited m p (with_pending_position x y) a (record { parent = refl; object = refl; pending = refl; current = inl refl }) (omega arith) (omega arith)
+    edited m p (with_pending_position x y) a (record { id = refl; parent = refl; object = refl; pending = refl; current = inl refl }) (omega arith) (omega arith)
 
 placed_in : (m : Model) (over : Bool) (c by : ℕ) (o : Option ℕ) → (surface_at m c).parent ≡ o → Sound m → Accepts Fine (place_in plain o over c by (start m))
 placed_in m over c by None e a = unchanged_fine m a
@@ -94,7 +94,7 @@ placed_beside m over (Some p) by a = placed_in m over p by (surface_at m p).pare
 
 synced : (m : Model) (o : Option ℕ) → Sound m → Accepts Fine (unless_inert plain o (λ p. Ok (edit p (with_sync true) (start m))) (start m))
 synced m None a = unchanged_fine m a
-synced m (Some p) a = edited m p (with_sync true) a (record { parent = refl; object = refl; pending = refl; current = inl refl }) (omega arith) (omega arith)
+synced m (Some p) a = edited m p (with_sync true) a (record { id = refl; parent = refl; object = refl; pending = refl; current = inl refl }) (omega arith) (omega arith)
 
 desynced : (m : Model) (o : Option ℕ) → Sound m → Accepts Fine (unless_inert plain o (λ p. Ok (desync plain p (start m))) (start m))
 desynced m None a = unchanged_fine m a
@@ -119,7 +119,7 @@ carried_fine m (destroy_surface p) a h = destroyed_fine m p a
 carried_fine m (attach p v x y) a h =
     then_unless Fine (not (int_eq x (pos 0))) _ _ λ _.
     then_unless Fine (not (int_eq y (pos 0))) _ _ λ _.
-    edited m p (with_attach v) a (record { parent = refl; object = refl; pending = refl; current = inl refl }) (omega arith) (omega arith)
+    edited m p (with_attach v) a (record { id = refl; parent = refl; object = refl; pending = refl; current = inl refl }) (omega arith) (omega arith)
 carried_fine m damage a h = unchanged_fine m a
 carried_fine m (ask_frame client p id) a h =
     then_unless Fine (full_callbacks m) _ _ λ e.

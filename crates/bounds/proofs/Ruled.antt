@@ -60,7 +60,7 @@ rooted : (m : Model) (p : ℕ) (x y : ℤ) → p < most → Sound m → Fine (ra
 rooted m p x y h a =
     let f : Surface → Surface = λ s. with_position x y (with_role (Some Root) s) in
     let b = fine_keeps 0 m (edit p f (start m)) a (omega arith)
-    (edit_keeps 0 p f (start m) (record { parent = refl; object = refl; pending = refl; current = inl refl }) (omega arith) (omega arith)) in
+    (edit_keeps 0 p f (start m) (record { id = refl; parent = refl; object = refl; pending = refl; current = inl refl }) (omega arith) (omega arith)) in
     record {
       sound = record { tree = b.sound.tree; spans = b.sound.spans; glass = b.sound.glass; roots = raised p m.roots h a.roots; callbacks = b.sound.callbacks };
       events = omega arith;
@@ -82,7 +82,7 @@ Alike o u = LinkedAlike (unwrap_or o no_surface) (unwrap_or u no_surface)
 
 marked_alike : (all : List Shown) (p : ℕ) (o : Option Surface) → Alike o (option_map (marked all p) o)
 marked_alike all p None = alike_same no_surface
-marked_alike all p (Some s) = record { parent = refl; object = refl; pending = refl; current = inl refl }
+marked_alike all p (Some s) = record { id = refl; parent = refl; object = refl; pending = refl; current = inl refl }
 
 abbrev marked_model : List Shown → Model → Model
 marked_model all m = with_surfaces (each_from (λ p. option_map (marked all p)) 0 m.surfaces) m

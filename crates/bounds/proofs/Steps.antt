@@ -23,17 +23,19 @@ Plain = Run (List Event)
 
 -- a surface whose links stay; its pending order may have become current
 pub record LinkedAlike (s t : Surface) : Type 0 where
+  pub id : t.id ≡ s.id
   pub parent : t.parent ≡ s.parent
   pub object : t.object ≡ s.object
   pub pending : t.pending.order ≡ s.pending.order
   pub current : (t.current.order ≡ s.current.order) ⊎ (t.current.order ≡ s.pending.order)
 
 pub alike_same : (s : Surface) → LinkedAlike s s
-alike_same s = record { parent = refl; object = refl; pending = refl; current = inl refl }
+alike_same s = record { id = refl; parent = refl; object = refl; pending = refl; current = inl refl }
 
 pub alike_then : (s t u : Surface) → LinkedAlike s t → LinkedAlike t u → LinkedAlike s u
 alike_then s t u a b =
     record {
+      id = b.id ∙ a.id;
       parent = b.parent ∙ a.parent;
       object = b.object ∙ a.object;
       pending = b.pending ∙ a.pending;

@@ -13,6 +13,9 @@ use Rattle.bounds.proofs.Forests.{pruned}
 use Rattle.bounds.proofs.Steps.{LinkedAlike}
 use Rattle.rules.specs.Table.{record_at}
 
+abbrev pub id_in : List (Option Surface) → ℕ → ℕ
+id_in t p = (record_at no_surface t p).id
+
 -- parents and pending orders that stay, where a pending order may have become current
 pub orders_stay : (t u : List (Option Surface)) → length u ≡ length t → ((q : ℕ) → parent_in u q ≡ parent_in t q) → ((q : ℕ) → pending_in u q ≡ pending_in t q)
     → ((q : ℕ) → (current_in u q ≡ current_in t q) ⊎ (current_in u q ≡ pending_in t q)) → Orders t → Orders u
@@ -49,6 +52,7 @@ tree_alike t u os e h a =
 -- the surface p has lost its parent: it left the parent's orders, and its sub-surface object is inert
 pub record Cut (p : ℕ) (t u : List (Option Surface)) (os ps : List (Option Object)) : Type 0 where
   pub places : length u ≡ length t
+  pub id : (x : ℕ) → id_in u x ≡ id_in t x
   pub object : (x : ℕ) → object_in u x ≡ object_in t x
   pub parent : (x : ℕ) → x ≢ p → parent_in u x ≡ parent_in t x
   pub gone : parent_in u p ≡ None

@@ -38,23 +38,24 @@ parted q p t = changed p parting (left q p t)
 
 -- what leaving and parting keep of a surface
 record KeptLinks (s t : Surface) : Type 0 where
+  id : t.id ≡ s.id
   object : t.object ≡ s.object
   pending : (c : ℕ) → Member c t.pending.order → Member c s.pending.order
   current : (c : ℕ) → Member c t.current.order → Member c s.current.order
   once : Once s.pending.order → Once t.pending.order
 
 kept_same : (s : Surface) → KeptLinks s s
-kept_same s = record { object = refl; pending = λ c m. m; current = λ c m. m; once = λ o. o }
+kept_same s = record { id = refl; object = refl; pending = λ c m. m; current = λ c m. m; once = λ o. o }
 
 module _ (q p : ℕ) (t : List (Option Surface)) where
   kept_left : (x : ℕ) → KeptLinks (record_at no_surface t x) (record_at no_surface (left q p t) x)
   kept_left =
       changed_related no_surface KeptLinks kept_same t q (leaving p)
-      (record { object = refl; pending = λ c m. (without_member p _ c m).0; current = λ c m. (without_member p _ c m).0; once = once_kept (λ q. not (eqb q p)) _ })
+      (record { id = refl; object = refl; pending = λ c m. (without_member p _ c m).0; current = λ c m. (without_member p _ c m).0; once = once_kept (λ q. not (eqb q p)) _ })
 
   kept_parted : (x : ℕ) → KeptLinks (record_at no_surface (left q p t) x) (record_at no_surface (parted q p t) x)
   kept_parted = changed_related no_surface KeptLinks kept_same (left q p t) p parting
-      (record { object = refl; pending = λ c m. m; current = λ c m. m; once = λ o. o })
+      (record { id = refl; object = refl; pending = λ c m. m; current = λ c m. m; once = λ o. o })
 
   parent_left : (x : ℕ) → parent_in (left q p t) x ≡ parent_in t x
   parent_left = changed_related no_surface (λ (s v : Surface). v.parent ≡ s.parent) (λ s. refl) t q (leaving p) refl
@@ -97,6 +98,7 @@ unlinked_tree q p t os e a =
     tree_cut p t (parted q p t) os (inert_objects (object_in t p) p os)
     (record {
       places = places_parted q p t;
+      id = λ x. (kept_parted q p t x).id ∙ (kept_left q p t x).id;
       object = λ x. (kept_parted q p t x).object ∙ (kept_left q p t x).object;
       parent = parent_parted q p t;
       gone = parent_gone q p t;
