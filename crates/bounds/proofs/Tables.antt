@@ -80,6 +80,12 @@ module _ {A : Type 0} (d : A) where
 
   module _ (w : A → ℕ) where
     -- a weight summed up, after a write: the old weight goes and the new one comes
+    pub put_list_sum : w d ≡ 0 → (t : List A) (p : ℕ) (a : A) → sum_by w (set t p a) + w (get_or t p d) ≤ sum_by w t + w a
+    put_list_sum z [] p a = omega arith
+    put_list_sum z (x ∷ t) zero a = omega (arith, sum_by-cons w x t, sum_by-cons w a t)
+    put_list_sum z (x ∷ t) (suc p) a = omega (arith, sum_by-cons w x t, sum_by-cons w x (set t p a), put_list_sum z t p a)
+
+    -- the same in a table, of which a free place weighs nothing
     pub put_sum : w d ≡ 0 → (t : List (Option A)) (p : ℕ) (o : Option A) → sum_by w (records (set t p o)) + w (record_at d t p) ≤ sum_by w (records t) + w (unwrap_or o d)
     put_sum z [] p o = omega (arith, z)
     put_sum z (None ∷ t) zero None = omega arith
@@ -122,7 +128,19 @@ module _ {A : Type 0} (w : A → ℕ) where
       let here = h x in
       omega (arith, sum_by-cons w x (records t), sum_by-cons w (f x) (records (map (option_map f) t)), all_sum f h t)
 
-  -- weights of at most one sum up to at most the number of places
+  -- a list whose elements are changed, each by its place, weighs no more where none of them does
+  pub each_sum : (f : ℕ → A → A) → ((k : ℕ) (a : A) → w (f k a) ≤ w a) → (i : ℕ) (t : List A) → sum_by w (each_from f i t) ≤ sum_by w t
+  each_sum f h i [] = omega arith
+  each_sum f h i (x ∷ t) =
+      let here = h i x in
+      omega (arith, sum_by-cons w x t, sum_by-cons w (f i x) (each_from f (suc i) t), each_sum f h (suc i) t)
+
+  -- weights of at most one sum up to at most the length of a list
+  pub sum_list_ones : ((a : A) → w a ≤ 1) → (t : List A) → sum_by w t ≤ length t
+  sum_list_ones h [] = omega arith
+  sum_list_ones h (x ∷ t) = let here = h x in omega (arith, sum_by-cons w x t, sum_list_ones h t)
+
+  -- and to at most the number of places of a table
   pub sum_ones : ((a : A) → w a ≤ 1) → (t : List (Option A)) → sum_by w (records t) ≤ length t
   sum_ones h [] = omega arith
   sum_ones h (None ∷ t) = omega (arith, sum_ones h t)

@@ -25,6 +25,11 @@ at_most_low most n None e = cc
 at_most_low most n (Some m) e =
     ⊎_elim (λ t. let low = leb-true m most t in let same : m ≡ n = grind arith in omega arith) (λ f. absurd (grind arith)) (cases_Bool (leb m most))
 
+-- a number that is read is never more than most
+pub number_low : (base most n : ℕ) (xs : List ℕ) → Some n ≡ number base most xs → n ≤ most
+number_low base most n [] e = cc
+number_low base most n (b ∷ bs) e = at_most_low most n (value base 0 (b ∷ bs)) (sym e)
+
 -- a digit in front of others
 with_more : (base most n b : ℕ) (bs : List ℕ) → at_most most (value base n (b ∷ bs)) ≡ option_and_then (λ m. at_most most (value base m bs)) (with_digit base most n b)
 with_more base most n b bs =

@@ -65,7 +65,8 @@ module _ (xs line : List ℕ) (m n : ℕ) (e : m ≡ prefix_len blank xs) (l : l
       let long = prefix_len-le-length in_word line in
       skipped ∙ rw f (words_split [] line) ∙ before_some (take n line) _ (simp length-take (omega arith))
 
-  pub no_word : n ≡ 0 → words xs ≡ []
+  -- where that has no byte, xs holds no word, and neither does what follows
+  pub no_word : n ≡ 0 → (words xs ≡ []) × (words (drop n line) ≡ [])
   no_word h =
       let none = words_none line (rw (l, e) (leading_once blank xs)) (sym f ∙ h) in
-      skipped ∙ none
+      (skipped ∙ none, rw h none)

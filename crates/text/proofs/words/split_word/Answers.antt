@@ -12,7 +12,7 @@ returns c =
           ⊎_elim
           (λ (t : c.is_empty.result ≡ true).
           let n : c.word_length.result ≡ 0 = omega (arith, eqb-true _ 0 (sym c.is_empty.ensures ∙ t)) in
-          rw c.then_some.ensures (rw t (no n)))
+          rw c.then_some.ensures (rw t (no n).0))
           (λ (f : c.is_empty.result ≡ false).
           let n : 0 < c.word_length.result = omega (arith, eqb-false _ 0 (sym c.is_empty.ensures ∙ f)) in
           rw c.then_some.ensures (rw f (law n ∙ simp (c.split_at-2.ensures.front, c.split_at-2.ensures.back))))
