@@ -58,6 +58,13 @@ impl<'a> Lines<'a> {
             before: 0,
         }
     }
+
+    // The text that is left.
+    pub fn rest(&self) -> &'a [u8]
+        ensures { result.now ≡ self.now.text }
+    {
+        self.rest // with the ends of its lines
+    }
 }
 
 impl<'a> Iterator for Lines<'a> {

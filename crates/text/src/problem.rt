@@ -46,7 +46,7 @@ pub enum Problem {
 }
 
 // A line that is wrong, counted from 1.
-#[derive(Clone, Copy, PartialEq, Eq, Debug)]
+#[derive(Clone, Copy, PartialEq, Eq)]
 pub struct BadLine {
     pub line: usize,
     pub problem: Problem,
@@ -117,6 +117,15 @@ impl fmt::Display for BadLine {
 
     fn fmt<W: fmt::Write>(&self, f: &mut fmt::Formatter<W>) -> fmt::Result {
         write!(f, "line {}: {}", self.line, self.problem)
+    }
+}
+
+// Written by hand, so that it shows the message under `{:?}` too.
+impl fmt::Debug for BadLine {
+    ghost debug_output = { λ b. Some (bad_line_text b) };
+
+    fn fmt<W: fmt::Write>(&self, f: &mut fmt::Formatter<W>) -> fmt::Result {
+        write!(f, "{self}")
     }
 }
 

@@ -63,6 +63,13 @@ impl<'a> Words<'a> {
     {
         Words { rest: line }
     }
+
+    // What is left of the line, from the end of the last word on.
+    pub fn rest(&self) -> &'a [u8]
+        ensures { self.now ≡ words result.now }
+    {
+        self.rest // with the blanks in front
+    }
 }
 
 impl<'a> Iterator for Words<'a> {
