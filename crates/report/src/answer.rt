@@ -7,6 +7,7 @@ use model::Fault;
 use std::alloc::AllocError;
 
 // `answer NUMBER STATION WORD`, with three zeros for an acceptance.
+#[tactic(auto, using(std::proofs::lemmas::Fmt::decimal_digit))]
 pub fn write_answer(out: &mut Vec<u8>, answer: &Result<(), Fault>) -> Result<(), AllocError>
     ensures { Appends result out.old.items (answer_line answer.now) out.new.items }
 {

@@ -1,5 +1,5 @@
 // The pixels that an output shows, as lines of a report.
-ghost use Rattle.std.specs.Prelude.{◌≡◌, ◌<◌, [], ◌∷◌, ◌++◌};
+ghost use Rattle.std.specs.Prelude.{◌≡◌, ◌<◌, [], ◌∷◌, ◌++◌, codes};
 ghost use Rattle.report.specs.Digits.{hex as hexOf};
 ghost use Rattle.report.specs.Output.{Appends};
 ghost use Rattle.report.specs.Report.{glass_line, row_lines, separator as separatorOf};
@@ -12,7 +12,13 @@ use std::alloc::AllocError;
 pub fn write_glass(out: &mut Vec<u8>, pixels: &[u32]) -> Result<(), AllocError>
     ensures { Appends result out.old.items (glass_line pixels.now) out.new.items }
 {
-    let crc = crc32(pixels);
+    write_crc(out, crc32(pixels))
+}
+
+// The line of a glass with that CRC, in eight digits.
+fn write_crc(out: &mut Vec<u8>, crc: u32) -> Result<(), AllocError>
+    ensures { Appends result out.old.items (codes "glass " ++ (hexOf crc ++ codes "\n")) out.new.items }
+{
     append(out, format_args!("glass {crc:08x}\n"))
 }
 
@@ -23,6 +29,8 @@ pub fn write_rows(out: &mut Vec<u8>, pixels: &[u32], width: usize) -> Result<(),
     if width == 0 {
         return Ok(());
     }
+    // The digits of a pixel and what ends them are nine bytes.
+    out.reserve(pixels.len().saturating_mul(9))?;
     // By place, which tells what stands after a pixel; with rows from `chunks` the last pixel of each would have to be told apart.
     for (i, pixel) in pixels.iter().enumerate() {
         let end = separator(width, pixels.len(), i + 1);
