@@ -10,8 +10,7 @@ pub fn draw_row(to: &mut [u32], from: &[u32], e: &Element)
 {
     // No zip of the two: of what was written through an adapter of `iter_mut`, nothing can be proved.
     for (i, below) in to.iter_mut().enumerate() {
-        if let Some(pixel) = from.get(i) {
-            *below = lay(e, *pixel, *below);
-        }
+        let Some(pixel) = from.get(i) else { break };
+        *below = lay(e, *pixel, *below);
     }
 }
