@@ -73,7 +73,8 @@ impl<'a> Presenter for Composer<'a> {
 impl<'a> Readback for Composer<'a> {
     fn pixel(&self, x: u32, y: u32, _memory: &[u32]) -> Option<u32> {
         // Copied first: what a closure reads in a struct that holds a `&mut` could not be proved.
-        let lit = self.lit;
-        frame_pixel(self.frame, self.size, x, y).filter(|_| lit)
+        let frame: &[u32] = self.frame;
+        let size = self.size;
+        self.lit.then(|| frame_pixel(frame, size, x, y)).flatten()
     }
 }
