@@ -20,7 +20,8 @@ fn first_bearer<K, R: Keyed<K>>(records: &[R], key: &K) -> Option<usize>
 }
 
 // The first place of a record that bears a key; none exactly if no record does.
-#[tactic(auto, using(crate::proofs::Places::position_place, crate::proofs::Places::place_any))]
+// By `take_all` the check knows what a part of the records is, so that an edit which searches one is refused for what it leaves out.
+#[tactic(auto, using(crate::proofs::Places::position_place, crate::proofs::Places::place_any, std::proofs::lemmas::List::take_all))]
 pub fn find<K, R: Keyed<K>>(records: &[R], key: &K) -> Option<usize>
     ensures first { result ≡ place (R.bearer key.now) records.now }
     ensures within { IfSome result (λ i. i < length records.now) }
